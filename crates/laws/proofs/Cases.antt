@@ -1,0 +1,23 @@
+-- A test's two outcomes: what holds of both answers of `cond`, two tests that pass alike, and numbers that compare one way or the other.
+use mathlib.Core.Path.{_≡_, refl}
+use mathlib.Core.Logic.{_⊎_, inl, inr}
+use mathlib.Core.Bool.{Bool, true, false, not, cond}
+use Prim.Native.Nat.{ℕ, _≤_, _<_}
+use lib.Dec.{T, ltb, ltb→lt, nltb→le}
+
+pub by-test : {A : Type 0} (P : A → Type 0) (b : Bool) {x y : A} → (T b → P x) → (T (not b) → P y) → P (cond b x y)
+by-test P true h k = h tt
+by-test P false h k = k tt
+
+pub passed-or-failed : (b : Bool) → T b ⊎ T (not b)
+passed-or-failed true = inl tt
+passed-or-failed false = inr tt
+
+pub same-test : (a b : Bool) → (T a → T b) → (T b → T a) → a ≡ b
+same-test true true p q = refl
+same-test true false p q = absurd (p tt)
+same-test false true p q = absurd (q tt)
+same-test false false p q = refl
+
+pub lt-or-ge : (a b : ℕ) → (a < b) ⊎ (b ≤ a)
+lt-or-ge a b = elim (passed-or-failed (ltb a b)) [ inl t ↦ inl (ltb→lt a b t) | inr t ↦ inr (nltb→le a b t) ]

@@ -1,0 +1,91 @@
+-- Laws of a slice that is written from the front.
+use mathlib.Core.Path.{_≡_, refl, sym, ap, _∙_}
+use mathlib.Core.List.{List, [], _∷_, _++_, append-assoc}
+use Prim.Native.Nat.{ℕ, zero, suc, _+_, _-_, _<_, _≤_}
+use native.Mathlib.Numerals.{add-one}
+use native.Mathlib.Omega.{arith}
+use lib.ListN.{length, drop, set, getD, length-append, length-set, length-drop, List·getD-append}
+use mathlib.Core.Logic.{inl, inr}
+use native.Mathlib.Nat.{not-suc-le-zero, eq-or-lt-of-le, le-of-suc-le-suc}
+use lib.Seq.{drop-cons, set-append-seam, drop-append-seam, getD-append-add, getD-append-seam, getD-drop, set-getD, ext-getD}
+use Rattle.laws.specs.Front.{front, list}
+
+module _ {A : Type 0} (xs m : List A) where
+  pub length-front : length xs ≤ length m → length (front xs m) ≡ length m
+  length-front h = simp (length-append, length-drop) (omega arith)
+
+  -- one more
+  pub front-more : (a : A) → length xs < length m → set (front xs m) (length xs) a ≡ front (xs ++ (a ∷ [])) m
+  front-more a h =
+      rw (drop-cons m (length xs) a, set-append-seam, length-append, append-assoc, add-one)
+
+pub length-list : {A : Type 0} (f : ℕ → A) (n : ℕ) → length (list f n) ≡ n
+unfolding list
+length-list f zero = refl
+length-list f (suc n) = simp (length-append, length-list f n) (omega arith)
+
+-- A loop that writes f i at i of m₀ has the invariant `Filled f m₀ m i`: `filled-start` where it begins, and after a turn `filled-more`.
+pub record Filled {A : Type 0} (f : ℕ → A) (m₀ m : List A) (i : ℕ) : Type 0 where
+  pub here : m ≡ front (list f i) m₀
+  pub long : length m ≡ length m₀
+
+pub filled-start : {A : Type 0} (f : ℕ → A) (m : List A) → Filled f m m 0
+unfolding list
+filled-start f m = record { here = refl; long = refl }
+
+pub filled-more : {A : Type 0} (f : ℕ → A) (m₀ m : List A) (i : ℕ) → Filled f m₀ m i → i < length m₀ → Filled f m₀ (set m i (f i)) (i + 1)
+unfolding list
+filled-more f m₀ m i e h =
+    let k : length (list f i) < length m₀ = rw (length-list f i) h in
+    let next : list f (i + 1) ≡ list f i ++ (f i ∷ []) = rw (add-one, list) in
+    record {
+      here = ap (λ (l : List _). set l i (f i)) (e .here) ∙ ap (λ (j : ℕ). set (front (list f i) m₀) j (f i)) (sym (length-list f i)) ∙ front-more (list f i) m₀ (f i) k ∙ ap (λ (l : List _). front l m₀) (sym next);
+      long = length-set m i (f i) ∙ e .long;
+    }
+
+-- what is not written yet still stands there, as an element that a turn replaces by what it makes of it
+pub filled-rest : {A : Type 0} (f : ℕ → A) (m₀ m : List A) (i j : ℕ) (d : A) → Filled f m₀ m i → i ≤ j → getD m j d ≡ getD m₀ j d
+filled-rest f m₀ m i j d e h =
+    let k : ℕ = j - i in
+    let at : j ≡ i + k = omega arith in
+    let long : length (list f i) ≡ i = length-list f i in
+    ap (λ (l : List _). getD l j d) (e .here)
+    ∙ ap (λ (x : ℕ). getD (front (list f i) m₀) x d) (at ∙ ap (λ (x : ℕ). x + k) (sym long))
+    ∙ getD-append-add (list f i) (drop (length (list f i)) m₀) k d
+    ∙ getD-drop (length (list f i)) m₀ k d
+    ∙ ap (λ (x : ℕ). getD m₀ x d) (ap (λ (x : ℕ). x + k) long ∙ sym at)
+
+-- ---- lists by their entries
+pub list-same : {A : Type 0} (f g : ℕ → A) (n : ℕ) → ((k : ℕ) → k < n → f k ≡ g k) → list f n ≡ list g n
+unfolding list
+list-same f g zero e = refl
+list-same f g (suc n) e = rw (list-same f g n (λ (k : ℕ) (h : k < n). e k (omega arith)), e n (omega arith))
+
+pub getD-list : {A : Type 0} (f : ℕ → A) (n k : ℕ) (d : A) → k < n → getD (list f n) k d ≡ f k
+unfolding list
+getD-list f zero k d h = absurd (not-suc-le-zero h)
+getD-list f (suc n) k d h =
+    elim (eq-or-lt-of-le (le-of-suc-le-suc h)) [
+      | inl e ↦ ap (λ (j : ℕ). getD (list f n ++ (f n ∷ [])) j d) (e ∙ sym (length-list f n)) ∙ getD-append-seam (list f n) (f n) [] d ∙ ap f (sym e)
+      | inr l ↦ List·getD-append (list f n) (f n ∷ []) d k (rw length-list l) ∙ getD-list f n k d l
+    ]
+
+-- a second list as long as the first takes its places
+pub front-front : {A : Type 0} (xs ys m : List A) → length xs ≡ length ys → front xs (front ys m) ≡ front xs m
+front-front xs ys m h = rw (h, drop-append-seam)
+
+pub getD-front : {A : Type 0} (f : ℕ → A) (n : ℕ) (m : List A) (k : ℕ) (d : A) → k < n → getD (front (list f n) m) k d ≡ f k
+getD-front f n m k d h = List·getD-append (list f n) (drop (length (list f n)) m) d k (rw length-list h) ∙ getD-list f n k d h
+
+-- a slice's own entries change nothing
+pub front-own : {A : Type 0} (m : List A) (n : ℕ) (d : A) → n ≤ length m → m ≡ front (list (λ (k : ℕ). getD m k d) n) m
+front-own m zero d h = filled-start (λ (k : ℕ). getD m k d) m .here
+front-own m (suc n) d h =
+    let own : Filled (λ (k : ℕ). getD m k d) m m n = record { here = front-own m n d (omega arith); long = refl } in
+    sym (set-getD m n d) ∙ filled-more (λ (k : ℕ). getD m k d) m m n own (omega arith) .here ∙ ap (λ (k : ℕ). front (list (λ (j : ℕ). getD m j d) k) m) (add-one n)
+
+-- a list by its own entries
+pub list-own : {A : Type 0} (xs : List A) (d : A) → list (λ (k : ℕ). getD xs k d) (length xs) ≡ xs
+list-own xs d =
+    let same = length-list (λ (k : ℕ). getD xs k d) (length xs) in
+    ext-getD d _ xs same (λ (k : ℕ) (h : k < length (list (λ (j : ℕ). getD xs j d) (length xs))). getD-list (λ (j : ℕ). getD xs j d) (length xs) k d (rw same at h))

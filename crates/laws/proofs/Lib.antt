@@ -1,0 +1,20 @@
+-- The laws of specs/, loops and slices first, then floats.
+pub mod Turns
+pub mod Seek
+pub mod First
+pub mod Front
+pub mod Every
+pub mod Column
+pub mod Table
+pub mod Cases
+pub mod Signs
+pub mod Patterns
+pub mod Order
+pub mod Nonneg
+pub mod Held
+pub mod Zero
+pub mod Convert
+pub mod Middle
+pub mod Pick
+pub mod Parts
+pub mod Total

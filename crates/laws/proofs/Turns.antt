@@ -1,0 +1,40 @@
+-- What the proof of a counted loop cites. A loop `while i < n` has the invariant `turns step (n - i) i s ≡ t`, with t its result:
+-- `turns-start` where it begins, `turns-again` after a turn, `turns-end` where it ends.
+use mathlib.Core.Path.{_≡_, sym, ap, _∙_}
+use Prim.Native.Nat.{ℕ, zero, suc, _+_, _-_, _<_, _≤_}
+use native.Mathlib.Numerals.{add-one}
+use native.Mathlib.Nat.{add-zero, zero-add}
+use native.Mathlib.Omega.{arith}
+use Rattle.laws.specs.Turns.{turns}
+
+pub one-less : (n i : ℕ) → i < n → n - i ≡ suc (n - (i + 1))
+one-less n i h = omega arith
+
+pub none-left : (n i : ℕ) → n ≤ i → n - i ≡ 0
+none-left n i h = omega arith
+
+pub all-left : (n : ℕ) → n - 0 ≡ n
+all-left n = omega arith
+
+pub turns-start : {S : Type 0} (step : ℕ → S → S) (n : ℕ) (s : S) → turns step (n - 0) 0 s ≡ turns step n 0 s
+turns-start step n s = ap (λ (k : ℕ). turns step k 0 s) (all-left n)
+
+pub turns-again : {S : Type 0} (step : ℕ → S → S) (n i : ℕ) {s s' t : S} → turns step (n - i) i s ≡ t → i < n → s' ≡ step i s → turns step (n - (i + 1)) (i + 1) s' ≡ t
+unfolding turns
+turns-again step n i {s} inv h e = ap (turns step (n - (i + 1)) (i + 1)) e ∙ sym (ap (λ (k : ℕ). turns step k i s) (one-less n i h)) ∙ inv
+
+pub turns-end : {S : Type 0} (step : ℕ → S → S) (n i : ℕ) {s t : S} → turns step (n - i) i s ≡ t → n ≤ i → s ≡ t
+unfolding turns
+turns-end step n i {s} inv h = sym (ap (λ (k : ℕ). turns step k i s) (none-left n i h)) ∙ inv
+
+-- the last of n + 1 turns
+last-turn : {S : Type 0} (step : ℕ → S → S) (n i : ℕ) (s : S) → turns step (suc n) i s ≡ step (i + n) (turns step n i s)
+unfolding turns
+last-turn step zero i s = ap (λ (k : ℕ). step k s) (sym (add-zero i))
+last-turn step (suc n) i s = last-turn step n (i + 1) (step i s) ∙ ap (λ (k : ℕ). step k (turns step n (i + 1) (step i s))) (further i n)
+  where
+    further : (i n : ℕ) → i + 1 + n ≡ i + suc n
+    further i n = omega arith
+
+pub turns-last : {S : Type 0} (step : ℕ → S → S) (n : ℕ) (s : S) → turns step (n + 1) 0 s ≡ step n (turns step n 0 s)
+turns-last step n s = ap (λ (k : ℕ). turns step k 0 s) (add-one n) ∙ last-turn step n 0 s ∙ ap (λ (k : ℕ). step k (turns step n 0 s)) (zero-add n)

@@ -1,0 +1,10 @@
+pub mod Turns
+pub mod Seek
+pub mod First
+pub mod Front
+pub mod Every
+pub mod Table
+pub mod Values
+pub mod Order
+pub mod Pick
+pub mod Convert

@@ -1,0 +1,4 @@
+pub mod Floor
+pub mod Root
+pub mod Steps
+pub mod Meaning

@@ -1,0 +1,4 @@
+// The leaves, exported for the comparison with the Rust. Never shipped.
+pub mod keys_by_number;
+pub mod numbers_f32;
+pub mod numbers_f64;

@@ -1,0 +1,3 @@
+-- What the promises' proofs share, and that each promise allows one outcome.
+mod Outcomes
+pub mod Unique

@@ -1,0 +1,36 @@
+-- The promise of `ulyptesh_write_key_name`, as one definition of what it is given. Definitions and the statement.
+use mathlib.Core.Path.{_≡_}
+use mathlib.Core.List.{List, [], _∷_}
+use Prim.Native.Nat.{ℕ}
+use lib.Dec.{ltb}
+use lib.ListN.{length}
+use Rattle.laws.specs.Front.{front}
+use Rattle.laws.specs.Table.{_gives_, firstOf}
+use Rattle.keys.specs.Numbers.{keyAt}
+use Rattle.keys.specs.Names.{nameOf}
+use Rattle.ulyptesh.specs.declared.names.KeyName.{KeyName}
+
+-- the call's answer: 01's number, or 0, and how many bytes were written
+abbrev pub answered : ℕ → ℕ → KeyName
+answered refusal length = record { refusal = refusal; length = length }
+
+-- what the call answers, and what it leaves in the lent bytes
+pub record Outcome : Type 0 where
+  pub answer : KeyName
+  pub bytes : List ℕ
+
+abbrev pub outcome : KeyName → List ℕ → Outcome
+outcome answer bytes = record { answer = answer; bytes = bytes }
+
+-- 11 for a number above 23 and 12 for too few bytes leave the bytes as they are; else the name stands at their front
+abbrev pub keyNameOf : ℕ → List ℕ → Outcome
+keyNameOf number bytes =
+    firstOf
+    ((ltb 23 number gives outcome (answered 11 0) bytes)
+    ∷ (ltb (length bytes) (length (nameOf (keyAt number))) gives outcome (answered 12 0) bytes)
+    ∷ [])
+    (outcome (answered 0 (length (nameOf (keyAt number)))) (front (nameOf (keyAt number)) bytes))
+
+-- two outcomes that the promise allows for one call are equal
+abbrev pub KeyNameUnique : Type 0
+KeyNameUnique = (number : ℕ) (bytes : List ℕ) (a b : Outcome) → a ≡ keyNameOf number bytes → b ≡ keyNameOf number bytes → a ≡ b

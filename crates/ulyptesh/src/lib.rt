@@ -1,0 +1,3 @@
+// The product: the exported calls, each with its whole promise. They take any input, and answer a
+// number of document 01 where they refuse.
+pub mod names;

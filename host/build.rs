@@ -1,0 +1,29 @@
+//! Links the two static libraries that `rt staticlib` wrote, and the oracle where it was built.
+use std::env;
+use std::path::Path;
+
+fn main() {
+    let host = env::var_os("CARGO_MANIFEST_DIR").expect("cargo names the package's folder");
+    let built = Path::new(&host).join("../target");
+    link_library(&built.join("staticlib"), "ulyptesh");
+    link_library(&built.join("staticlib"), "probe");
+    link_oracle(&built.join("oracle"));
+}
+
+fn link_library(folder: &Path, name: &str) {
+    let archive = folder.join(format!("lib{name}.a"));
+    println!("cargo::rerun-if-changed={}", archive.display());
+    println!("cargo::rustc-link-search=native={}", folder.display());
+    println!("cargo::rustc-link-lib=static={name}");
+}
+
+// `cfg(oracle)` holds exactly where `extern crate key_lime` finds the oracle.
+fn link_oracle(folder: &Path) {
+    let oracle = folder.join("libkey_lime.rlib");
+    println!("cargo::rustc-check-cfg=cfg(oracle)");
+    println!("cargo::rerun-if-changed={}", oracle.display());
+    if oracle.exists() {
+        println!("cargo::rustc-cfg=oracle");
+        println!("cargo::rustc-link-search=crate={}", folder.display());
+    }
+}

@@ -1,0 +1,63 @@
+//! Our leaves beside the hardware's, on the same inputs: nanoseconds for one value.
+#[path = "../compare/random.rs"]
+mod random;
+
+use random::patterns;
+use std::hint::black_box;
+use std::time::Instant;
+use ulyptesh_host::probe::{probe_narrow, probe_square_root};
+
+const VALUES: usize = 1 << 14;
+const TURNS: usize = 100;
+const ROUNDS: usize = 9;
+
+fn fixed_patterns() -> impl Iterator<Item = u64> {
+    patterns(44_100, 0)
+}
+
+/// Positive normal values from 2^-32 to 2^32, as samples and energies are.
+fn ordinary() -> impl Iterator<Item = f64> {
+    fixed_patterns().map(|pattern| f64::from_bits((1023 - 32 + (pattern >> 58)) << 52 | pattern >> 12))
+}
+
+/// The sum of the results' bits keeps every result needed.
+fn one_turn<X: Copy>(values: &[X], leaf: impl Fn(X) -> f32) -> u32 {
+    values.iter().fold(0, |sum, &x| sum.wrapping_add(black_box(leaf(black_box(x))).to_bits()))
+}
+
+fn nanoseconds<X: Copy>(values: &[X], leaf: impl Fn(X) -> f32) -> f64 {
+    let begun = Instant::now();
+    let sum = (0..TURNS).fold(0, |sum: u32, _| sum.wrapping_add(one_turn(values, &leaf)));
+    black_box(sum);
+    begun.elapsed().as_secs_f64() * 1e9 / (TURNS * values.len()) as f64
+}
+
+/// The fastest round of each: what else the machine does can only add.
+fn fastest(round: impl Fn() -> f64) -> f64 {
+    (0..ROUNDS).map(|_| round()).fold(f64::INFINITY, f64::min)
+}
+
+fn row<X: Copy>(
+    name: &str,
+    values: impl Iterator<Item = X>,
+    ours: impl Fn(X) -> f32,
+    theirs: impl Fn(X) -> f32,
+) {
+    let values: Vec<X> = values.take(VALUES).collect();
+    let our_time = fastest(|| nanoseconds(&values, &ours));
+    let their_time = fastest(|| nanoseconds(&values, &theirs));
+    println!("{name:30} {our_time:8.2} {their_time:9.2} {:7.2}", our_time / their_time);
+}
+
+fn main() {
+    println!("{:30} {:>8} {:>9} {:>7}", "ns for one value", "ours", "hardware", "ratio");
+    row("square_root, ordinary values", ordinary().map(|x| x as f32), |x| probe_square_root(x), f32::sqrt);
+    row(
+        "square_root, mixed patterns",
+        fixed_patterns().map(|pattern| f32::from_bits(pattern as u32)),
+        |x| probe_square_root(x),
+        f32::sqrt,
+    );
+    row("narrow, ordinary values", ordinary(), |x| probe_narrow(x), |x| x as f32);
+    row("narrow, mixed patterns", fixed_patterns().map(f64::from_bits), |x| probe_narrow(x), |x| x as f32);
+}

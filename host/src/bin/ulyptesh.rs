@@ -1,0 +1,59 @@
+//! The library from a terminal.
+use std::io::{self, Write};
+use std::process::ExitCode;
+use ulyptesh_host::key_name::key_name;
+
+const USAGE: &str = "usage: ulyptesh demo               the 24 key numbers with their names
+       ulyptesh key-name NUMBER    the name of one key";
+
+/// What went wrong, with the exit status that says so.
+struct Failure {
+    message: String,
+    status: u8,
+}
+
+fn bad_usage(what: String) -> Failure {
+    Failure { message: format!("{what}\n{USAGE}"), status: 2 }
+}
+
+fn refused(why: impl ToString) -> Failure {
+    Failure { message: why.to_string(), status: 1 }
+}
+
+fn say(line: &str) -> Result<(), Failure> {
+    writeln!(io::stdout(), "{line}").map_err(|why| refused(format!("standard output: {why}")))
+}
+
+fn demo() -> Result<(), Failure> {
+    (0..24).try_for_each(|number| say(&format!("{number:2}  {}", key_name(number).map_err(refused)?)))
+}
+
+fn name_of(word: &str) -> Result<(), Failure> {
+    let number = word
+        .parse()
+        .map_err(|_| bad_usage(format!("'{word}' is not a whole number from 0 to 4294967295")))?;
+    say(&key_name(number).map_err(refused)?)
+}
+
+fn run(words: &[&str]) -> Result<(), Failure> {
+    match words {
+        ["demo"] => demo(),
+        ["key-name", word] => name_of(word),
+        ["--help" | "-h"] => say(USAGE),
+        [] => Err(bad_usage("no command was given".into())),
+        _ => Err(bad_usage(format!("'{}' is not a command", words.join(" ")))),
+    }
+}
+
+fn main() -> ExitCode {
+    let given: Vec<String> =
+        std::env::args_os().skip(1).map(|word| word.to_string_lossy().into_owned()).collect();
+    let words: Vec<&str> = given.iter().map(String::as_str).collect();
+    match run(&words) {
+        Ok(()) => ExitCode::SUCCESS,
+        Err(failure) => {
+            eprintln!("ulyptesh: {}", failure.message);
+            ExitCode::from(failure.status)
+        }
+    }
+}

@@ -1,0 +1,124 @@
+//! Groups of inputs, each given to both sides, and what is said about them.
+use std::process::ExitCode;
+use std::time::Instant;
+
+/// So many differences of one group are printed.
+const PRINTED: u64 = 5;
+
+/// What goes into a comparison or comes out of it.
+pub trait Compared {
+    /// Equal bit for bit; every NaN equals every other.
+    fn same(&self, other: &Self) -> bool;
+
+    /// As a reader needs it: floats by their bit pattern.
+    fn shown(&self) -> String;
+}
+
+macro_rules! compared_exactly {
+    ($($kind:ty),*) => {$(
+        impl $crate::compare::groups::Compared for $kind {
+            fn same(&self, other: &Self) -> bool {
+                self == other
+            }
+
+            fn shown(&self) -> String {
+                format!("{self:?}")
+            }
+        }
+    )*};
+}
+
+pub(super) use compared_exactly;
+
+compared_exactly!(bool, u32, usize);
+
+macro_rules! compared_as_floats {
+    ($($kind:ty),*) => {$(
+        impl Compared for $kind {
+            fn same(&self, other: &Self) -> bool {
+                self.to_bits() == other.to_bits() || (self.is_nan() && other.is_nan())
+            }
+
+            fn shown(&self) -> String {
+                format!("{self:?} ({:#x})", self.to_bits())
+            }
+        }
+    )*};
+}
+
+compared_as_floats!(f32, f64);
+
+impl<A: Compared, B: Compared> Compared for (A, B) {
+    fn same(&self, other: &Self) -> bool {
+        self.0.same(&other.0) && self.1.same(&other.1)
+    }
+
+    fn shown(&self) -> String {
+        format!("{}, {}", self.0.shown(), self.1.shown())
+    }
+}
+
+/// The tests so far. The seed is what random inputs are made from.
+pub struct Groups {
+    pub seed: u64,
+    passed: u64,
+    failed: u64,
+}
+
+impl Groups {
+    pub fn new(seed: u64) -> Self {
+        println!("comparison with seed {seed}");
+        Self { seed, passed: 0, failed: 0 }
+    }
+
+    /// One test: both sides answer alike on every input.
+    pub fn group<I: Compared + Clone, A: Compared>(
+        &mut self,
+        name: &str,
+        inputs: impl Iterator<Item = I>,
+        ours: impl Fn(I) -> A,
+        theirs: impl Fn(I) -> A,
+    ) {
+        let begun = Instant::now();
+        let (mut count, mut differ) = (0u64, 0u64);
+        inputs.for_each(|input| {
+            count += 1;
+            let (found, wanted) = (ours(input.clone()), theirs(input.clone()));
+            if !found.same(&wanted) {
+                differ += 1;
+                self.print_difference(differ, name, &input, &found, &wanted);
+            }
+        });
+        println!("{name}: {count} inputs, {differ} differ, {:.2} s", begun.elapsed().as_secs_f64());
+        self.record(count > 0 && differ == 0);
+    }
+
+    fn print_difference<A: Compared>(
+        &self,
+        nth: u64,
+        name: &str,
+        input: &impl Compared,
+        found: &A,
+        wanted: &A,
+    ) {
+        if nth <= PRINTED {
+            println!("{name}: seed {}, input {}", self.seed, input.shown());
+            println!("    ours   {}", found.shown());
+            println!("    theirs {}", wanted.shown());
+        }
+    }
+
+    // A group without inputs has shown nothing, so it fails.
+    fn record(&mut self, good: bool) {
+        if good {
+            self.passed += 1;
+        } else {
+            self.failed += 1;
+        }
+    }
+
+    pub fn close(&self) -> ExitCode {
+        println!("{} passed, {} failed", self.passed, self.failed);
+        if self.failed == 0 { ExitCode::SUCCESS } else { ExitCode::FAILURE }
+    }
+}

@@ -1,0 +1,7 @@
+//! Safe Rust over the calls that the verified library exports, a module per topic.
+//!
+//! A slice crosses the C interface as two arguments, pointer and count. Each wrapper lends a Rust slice for
+//! the length of one call; the library keeps no pointer.
+
+pub mod key_name;
+pub mod probe;
