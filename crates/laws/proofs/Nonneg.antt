@@ -1,5 +1,5 @@
--- The values that are finite and have the sign clear, +0 and what is above it: sums, differences, quotients and conversions keep their order,
--- in either format, subnormal results and overflow to an infinity included. -0 is left out: no operation here makes it from such values.
+-- The values that are finite and have the sign plus, +0 and what is above it: sums, differences and quotients keep their order, in either format,
+-- subnormal results and overflow to an infinity included. -0 is left out: no operation here makes it from such values.
 use mathlib.Core.Path.{_≡_, refl, sym, ap, _∙_, subst, subst₂}
 use mathlib.Core.Logic.{_⊎_, inl, inr}
 use Prim.Native.Nat.{ℕ, zero, suc, _+_, _-_, _*_, _^_, _≤_, _<_}

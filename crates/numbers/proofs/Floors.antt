@@ -19,7 +19,7 @@ use Rattle.laws.proofs.Signs.{nan-is, neg-round}
 use Rattle.laws.proofs.Order.{not-le→lt}
 use Rattle.laws.proofs.Nonneg.{le→cross, lt→cross}
 use Rattle.laws.proofs.Held.{fitting}
-use Rattle.numbers.specs.Floor.{floored, below}
+use Rattle.numbers.specs.Floor.{floored, downTo}
 use Rattle.laws.proofs.Table.{told}
 
 -- 2^23, from which on every binary32 value is whole
@@ -131,11 +131,11 @@ floor-of-whole (inf s) h t = absurd h
 floor-of-whole (fin s m e) h t = itself s m e (eqb-true (m * up e % down e) 0 (sym (test-is s m e h) ∙ t))
 
 -- where something is left over, the floor is `below` the whole part
-step-down : (s : Bool) (m : ℕ) (e : ℤ) → Small (fin s m e) → eq (ofInt binary32 (pos (cutOf (fin s m e)))) (magnitudeOf (fin s m e)) ≡ false → ofInt binary32 (below s (cutOf (fin s m e))) ≡ floored (fin s m e)
+step-down : (s : Bool) (m : ℕ) (e : ℤ) → Small (fin s m e) → eq (ofInt binary32 (pos (cutOf (fin s m e)))) (magnitudeOf (fin s m e)) ≡ false → ofInt binary32 (downTo s (cutOf (fin s m e))) ≡ floored (fin s m e)
 unfolding floored
 step-down s m e h t =
-    ap (λ (q : ℕ). ofInt binary32 (below s q)) (cut-is s m e h)
-    ∙ sym (ap (λ (b : Bool). cond b (fin s m e) (ofInt binary32 (below s (m * up e / down e)))) (sym (test-is s m e h) ∙ t))
+    ap (λ (q : ℕ). ofInt binary32 (downTo s q)) (cut-is s m e h)
+    ∙ sym (ap (λ (b : Bool). cond b (fin s m e) (ofInt binary32 (downTo s (m * up e / down e)))) (sym (test-is s m e h) ∙ t))
 
 pub floor-of-positive : (x : Float) → Small x → negative x ≡ false → eq (ofInt binary32 (pos (cutOf x))) (magnitudeOf x) ≡ false → ofInt binary32 (pos (cutOf x)) ≡ floored x
 floor-of-positive nan h n t = absurd h

@@ -7,27 +7,27 @@ use lib.Ieee.{Float, nan, inf, fin, binary32, up, down, fits, le, ofInt}
 use lib.Ieee.Scale.{finite}
 
 -- the whole number at or below q + a fraction of (0, 1), and at or below -(q + that fraction), which is -(q + 1)
-abbrev pub below : Bool → ℕ → ℤ
-below false q = pos q
-below true q = negsuc q
+abbrev pub downTo : Bool → ℕ → ℤ
+downTo false q = pos q
+downTo true q = negsuc q
 
--- IEEE 754 5.9 roundToIntegralTowardNegative: the size m * 2 ^ e is the fraction m * up e / down e. Where it is whole, x is the result, -0 included.
+-- IEEE 754 5.9 roundToIntegralTowardNegative: the size m * 2 ^ e is the fraction m * up e / down e. Where it is isWhole, x is the result, -0 included.
 unfoldable pub floored : Float → Float
 floored nan = nan
 floored (inf s) = inf s
-floored (fin s m e) = cond (eqb (m * up e % down e) 0) (fin s m e) (ofInt binary32 (below s (m * up e / down e)))
+floored (fin s m e) = cond (eqb (m * up e % down e) 0) (fin s m e) (ofInt binary32 (downTo s (m * up e / down e)))
 
 -- y is a whole number, of any size
-abbrev pub whole : Float → Bool
-whole nan = false
-whole (inf s) = false
-whole (fin s m e) = eqb (m * up e % down e) 0
+abbrev pub isWhole : Float → Bool
+isWhole nan = false
+isWhole (inf s) = false
+isWhole (fin s m e) = eqb (m * up e % down e) 0
 
 -- r is the largest whole number that is not above x
 pub record LargestWhole (x r : Float) : Type 0 where
-  pub is-whole : T (whole r)
+  pub is-whole : T (isWhole r)
   pub not-above : T (le r x)
-  pub largest : (y : Float) → T (whole y) → T (le y x) → T (le y r)
+  pub largest : (y : Float) → T (isWhole y) → T (le y x) → T (le y r)
 
 -- the theorem that proofs/Largest.antt proves
 abbrev pub FloorIsLargest : Type 0
