@@ -5,3 +5,4 @@
 
 pub mod key_name;
 pub mod probe;
+pub mod scores;

@@ -1,13 +1,13 @@
 -- Laws of a slice that is written from the front.
 use mathlib.Core.Path.{_≡_, refl, sym, ap, _∙_}
-use mathlib.Core.List.{List, [], _∷_, _++_, append-assoc}
+use mathlib.Core.List.{List, [], _∷_, _++_, append-assoc, append-nil}
 use Prim.Native.Nat.{ℕ, zero, suc, _+_, _-_, _<_, _≤_}
 use native.Mathlib.Numerals.{add-one}
 use native.Mathlib.Omega.{arith}
 use lib.ListN.{length, drop, set, getD, length-append, length-set, length-drop, List·getD-append}
 use mathlib.Core.Logic.{inl, inr}
 use native.Mathlib.Nat.{not-suc-le-zero, eq-or-lt-of-le, le-of-suc-le-suc}
-use lib.Seq.{drop-cons, set-append-seam, drop-append-seam, getD-append-add, getD-append-seam, getD-drop, set-getD, ext-getD}
+use lib.Seq.{drop-cons, set-append-seam, drop-append-seam, getD-append-add, getD-append-seam, getD-drop, set-getD, ext-getD, drop-length}
 use Rattle.laws.specs.Front.{front, list}
 
 module _ {A : Type 0} (xs m : List A) where
@@ -89,3 +89,16 @@ pub list-own : {A : Type 0} (xs : List A) (d : A) → list (λ (k : ℕ). getD x
 list-own xs d =
     let same = length-list (λ (k : ℕ). getD xs k d) (length xs) in
     ext-getD d _ xs same (λ (k : ℕ) (h : k < length (list (λ (j : ℕ). getD xs j d) (length xs))). getD-list (λ (j : ℕ). getD xs j d) (length xs) k d (rw same at h))
+
+-- a list that takes every place
+pub front-all : {A : Type 0} (xs m : List A) → length xs ≡ length m → front xs m ≡ xs
+front-all xs m h = rw (h, drop-length m, append-nil xs)
+
+-- a slice that was copied over, entry by entry
+pub filled-own : {A : Type 0} (xs m₀ m : List A) (d : A) (n : ℕ) → Filled (λ (k : ℕ). getD xs k d) m₀ m n → n ≡ length xs → m ≡ front xs m₀
+filled-own xs m₀ m d n e h = e .here ∙ ap (λ (k : ℕ). front (list (λ (j : ℕ). getD xs j d) k) m₀) h ∙ ap (λ (l : List _). front l m₀) (list-own xs d)
+
+-- an array that was written to its end
+pub filled-whole : {A : Type 0} (f : ℕ → A) (m₀ m : List A) (n count : ℕ) → Filled f m₀ m n → n ≡ count → count ≡ length m₀ → m ≡ list f count
+filled-whole f m₀ m n count e h l =
+    e .here ∙ ap (λ (k : ℕ). front (list f k) m₀) h ∙ front-all (list f count) m₀ (length-list f count ∙ l)

@@ -6,7 +6,7 @@ use native.Mathlib.Nat.{zero-add, add-sub-cancel-left}
 use native.Mathlib.Omega.{arith}
 use mathlib.Core.Bool.{Bool, true, false, not, cond, true≢false, false≢true}
 use lib.Dec.{T, eqb, leb, eqb-refl, ltb}
-use lib.Ieee.{Float, nan, inf, fin, Format, size, up, down, prec, low, ones, hid, top, isNan, ne, neg, odd, ofFields, ofBits, toBits, fits, emax, units, round}
+use lib.Ieee.{Float, nan, inf, fin, Format, binary32, binary64, div, size, up, down, prec, low, ones, hid, top, isNan, ne, neg, odd, ofFields, ofBits, toBits, fits, emax, units, round}
 use lib.Ieee.Fits.{round-is}
 use lib.Ieee.Bits.{is-true, ofBits-toBits}
 use Rattle.laws.specs.Values.{negative, magnitudeOf, ordered, clear}
@@ -22,6 +22,12 @@ ne-self (fin false m e) = rw (is-true (eqb (m * up e * down e) (m * up e * down 
 
 pub not-nan : (x : Float) → isNan x ≡ false → T (not (isNan x))
 not-nan x e = subst (λ (b : Bool). T (not b)) (sym e) tt
+
+-- what `0.0 / 0.0` makes
+pub made-nan : (f : Format) → div f (ofBits f 0) (ofBits f 0) ≡ nan
+unfolding div ofBits
+made-nan binary32 = refl
+made-nan binary64 = refl
 
 -- ---- the three kinds of value
 pub kind : (x : Float) → (x ≡ nan) ⊎ (T (clear x) ⊎ T (negative x))

@@ -3,7 +3,7 @@ use mathlib.Core.Path.{_≡_, refl, sym, ap, _∙_}
 use Prim.Native.Nat.{ℕ, _+_, _-_, _*_, _≤_, _<_}
 use mathlib.Core.Bool.{Bool, true, false, not, _&&_, _||_, cond}
 use lib.Dec.{T, leb}
-use lib.Ieee.{Float, nan, Format, binary32, div, ofBits, top, fits, isNan, lt, eq, toBits}
+use lib.Ieee.{Float, Format, top, fits, isNan, lt, eq, toBits}
 use borrow.Author.Tests.{lt-ltb, le-ltb}
 use Rattle.laws.specs.Values.{negative}
 use Rattle.laws.specs.Order.{totalOrder, orderKey}
@@ -11,11 +11,6 @@ use Rattle.laws.specs.Pick.{maximumNumber, minimumNumber}
 use Rattle.laws.proofs.Table.{told}
 use Rattle.laws.proofs.Total.{total-order}
 use Rattle.laws.proofs.Signs.{nan-is, not-nan}
-
--- `0.0 / 0.0`
-pub made-nan : div binary32 (ofBits binary32 0) (ofBits binary32 0) ≡ nan
-unfolding div ofBits
-made-nan = refl
 
 -- ---- the sign
 pub unsigned-nan : (x : Float) {flag : Bool} → flag ≡ isNan x → flag ≡ true → false ≡ negative x

@@ -1,3 +1,4 @@
+pub mod Sum
 pub mod Floor
 pub mod Root
 pub mod Steps

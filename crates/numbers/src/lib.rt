@@ -4,4 +4,5 @@ pub mod convert;
 pub mod double;
 pub mod root;
 pub mod single;
+pub mod sums;
 pub mod whole;

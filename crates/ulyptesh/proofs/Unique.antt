@@ -1,6 +1,13 @@
 -- Each promise is an equality, so it allows one outcome.
 use mathlib.Core.Path.{sym, _∙_}
+use Rattle.ulyptesh.specs.FromChroma.{ScoresUnique, KeyUnique}
 use Rattle.ulyptesh.specs.KeyNames.{KeyNameUnique}
+
+pub scores-unique : ScoresUnique
+scores-unique chroma places a b p q = p ∙ sym q
+
+pub key-unique : KeyUnique
+key-unique chroma a b p q = p ∙ sym q
 
 pub key-name-unique : KeyNameUnique
 key-name-unique number bytes a b p q = p ∙ sym q

@@ -1,1 +1,2 @@
+pub mod FromChroma
 pub mod KeyNames

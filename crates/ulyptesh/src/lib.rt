@@ -1,3 +1,4 @@
 // The product: the exported calls, each with its whole promise. They take any input, and answer a
 // number of document 01 where they refuse.
+pub mod from_chroma;
 pub mod names;

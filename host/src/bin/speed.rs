@@ -1,4 +1,10 @@
-//! Our leaves beside the hardware's, on the same inputs: nanoseconds for one value.
+//! Our leaves beside the hardware's and our calls beside the oracle's, on the same inputs: nanoseconds for one.
+#[cfg(oracle)]
+extern crate key_lime;
+
+#[cfg(oracle)]
+#[path = "../compare/chromas.rs"]
+mod chromas;
 #[path = "../compare/random.rs"]
 mod random;
 
@@ -7,12 +13,13 @@ use std::hint::black_box;
 use std::time::Instant;
 use ulyptesh_host::probe::{probe_narrow, probe_square_root};
 
+const SEED: u64 = 44_100;
 const VALUES: usize = 1 << 14;
 const TURNS: usize = 100;
 const ROUNDS: usize = 9;
 
 fn fixed_patterns() -> impl Iterator<Item = u64> {
-    patterns(44_100, 0)
+    patterns(SEED, 0).take(VALUES)
 }
 
 /// Positive normal values from 2^-32 to 2^32, as samples and energies are.
@@ -43,14 +50,18 @@ fn row<X: Copy>(
     ours: impl Fn(X) -> f32,
     theirs: impl Fn(X) -> f32,
 ) {
-    let values: Vec<X> = values.take(VALUES).collect();
+    let values: Vec<X> = values.collect();
     let our_time = fastest(|| nanoseconds(&values, &ours));
     let their_time = fastest(|| nanoseconds(&values, &theirs));
     println!("{name:30} {our_time:8.2} {their_time:9.2} {:7.2}", our_time / their_time);
 }
 
-fn main() {
-    println!("{:30} {:>8} {:>9} {:>7}", "ns for one value", "ours", "hardware", "ratio");
+fn header(what: &str, theirs: &str) {
+    println!("{what:30} {:>8} {theirs:>9} {:>7}", "ours", "ratio");
+}
+
+fn leaf_rows() {
+    header("ns for one value", "hardware");
     row("square_root, ordinary values", ordinary().map(|x| x as f32), |x| probe_square_root(x), f32::sqrt);
     row(
         "square_root, mixed patterns",
@@ -60,4 +71,27 @@ fn main() {
     );
     row("narrow, ordinary values", ordinary(), |x| probe_narrow(x), |x| x as f32);
     row("narrow, mixed patterns", fixed_patterns().map(f64::from_bits), |x| probe_narrow(x), |x| x as f32);
+}
+
+#[cfg(oracle)]
+fn chroma_rows() {
+    use chromas::plain_kinds;
+    use key_lime::classify_key_scores;
+    use ulyptesh_host::scores::scores;
+
+    const CHROMAS: usize = 1 << 9;
+    header("ns for one chroma", "oracle");
+    let normalised = plain_kinds(SEED).find(|kind| kind.name == "normalised").expect("a kind of that name");
+    row(
+        "scores, normalised chromas",
+        normalised.chromas.take(CHROMAS),
+        |chroma| black_box(scores(&chroma).expect("a chroma of twelve numbers"))[0],
+        |chroma| black_box(classify_key_scores(&chroma))[0],
+    );
+}
+
+fn main() {
+    leaf_rows();
+    #[cfg(oracle)]
+    chroma_rows();
 }

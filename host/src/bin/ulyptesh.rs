@@ -2,9 +2,14 @@
 use std::io::{self, Write};
 use std::process::ExitCode;
 use ulyptesh_host::key_name::key_name;
+use ulyptesh_host::scores::key;
 
-const USAGE: &str = "usage: ulyptesh demo               the 24 key numbers with their names
-       ulyptesh key-name NUMBER    the name of one key";
+const USAGE: &str = "usage: ulyptesh demo               the 24 keys by number, and the key of a triad
+       ulyptesh key-name NUMBER    the name of one key
+       ulyptesh key NUMBER x12     the key of a chroma: a number for each pitch class, from C upward";
+
+/// A, C and E, with A the loudest.
+const TRIAD: [f32; 12] = [0.8, 0.0, 0.0, 0.0, 0.7, 0.0, 0.0, 0.0, 0.0, 1.0, 0.0, 0.0];
 
 /// What went wrong, with the exit status that says so.
 struct Failure {
@@ -25,7 +30,20 @@ fn say(line: &str) -> Result<(), Failure> {
 }
 
 fn demo() -> Result<(), Failure> {
-    (0..24).try_for_each(|number| say(&format!("{number:2}  {}", key_name(number).map_err(refused)?)))
+    (0..24).try_for_each(|number| say(&format!("{number:2}  {}", key_name(number).map_err(refused)?)))?;
+    say(&format!("a chroma of A, C and E is {}", key_of(&TRIAD)?))
+}
+
+/// The key's name with what speaks for it, each number in as few digits as tell it from all others.
+fn key_of(chroma: &[f32]) -> Result<String, Failure> {
+    let found = key(chroma).map_err(refused)?;
+    let name = key_name(found.number).map_err(refused)?;
+    let (best, second, confidence) = (found.best, found.second, found.confidence);
+    Ok(format!("{name}: best score {best:?}, second {second:?}, confidence {confidence:?}"))
+}
+
+fn number_in(word: &&str) -> Result<f32, Failure> {
+    word.parse().map_err(|_| bad_usage(format!("'{word}' is not a number")))
 }
 
 fn name_of(word: &str) -> Result<(), Failure> {
@@ -39,6 +57,10 @@ fn run(words: &[&str]) -> Result<(), Failure> {
     match words {
         ["demo"] => demo(),
         ["key-name", word] => name_of(word),
+        ["key", numbers @ ..] => {
+            let chroma = numbers.iter().map(number_in).collect::<Result<Vec<f32>, Failure>>()?;
+            say(&key_of(&chroma)?)
+        }
         ["--help" | "-h"] => say(USAGE),
         [] => Err(bad_usage("no command was given".into())),
         _ => Err(bad_usage(format!("'{}' is not a command", words.join(" ")))),

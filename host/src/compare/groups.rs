@@ -58,6 +58,16 @@ impl<A: Compared, B: Compared> Compared for (A, B) {
     }
 }
 
+impl<A: Compared, const N: usize> Compared for [A; N] {
+    fn same(&self, other: &Self) -> bool {
+        self.iter().zip(other).all(|(one, another)| one.same(another))
+    }
+
+    fn shown(&self) -> String {
+        self.each_ref().map(A::shown).join(", ")
+    }
+}
+
 /// The tests so far. The seed is what random inputs are made from.
 pub struct Groups {
     pub seed: u64,

@@ -1,6 +1,8 @@
 //! A module per topic; a named group of inputs is one test.
 extern crate key_lime;
 
+mod borderline;
+mod chromas;
 mod edges;
 mod format;
 mod groups;
@@ -8,6 +10,7 @@ mod keys;
 mod numbers;
 mod orders;
 mod random;
+mod scores;
 
 use groups::Groups;
 use std::process::ExitCode;
@@ -45,6 +48,7 @@ fn compare(given: &Options) -> ExitCode {
     numbers::compare(&mut groups, given.all);
     orders::compare(&mut groups);
     keys::compare(&mut groups);
+    scores::compare(&mut groups);
     groups.close()
 }
 

@@ -1,12 +1,9 @@
 -- `bytes` is written from the front, a byte of the name a turn.
 use Prim.Native.Nat.{ℕ, _≤_, _-_}
-use mathlib.Core.Path.{_≡_, ap, _∙_}
-use mathlib.Core.List.{List}
 use native.Mathlib.Omega.{arith}
 use borrow.Author.Needs.{needs}
-use lib.ListN.{length, getD}
-use Rattle.laws.specs.Front.{front, list}
-use Rattle.laws.proofs.Front.{Filled, filled-start, filled-more, list-own}
+use lib.ListN.{getD}
+use Rattle.laws.proofs.Front.{Filled, filled-start, filled-more, filled-own}
 use Rattle.keys.specs.Names.{nameOf}
 use Rattle.keys.proofs.names.write_name.Statement.{statement}
 use Rattle.keys.proofs.names.write_name.Tie as tie
@@ -46,9 +43,8 @@ same-length c = c .before .loop .inv .1 .long
 returns : tie.Need-returns Inv-loop μ-loop
 returns c =
     let turn = c .before .loop in
-    let name = nameOf (c .before .before .before .before .args .key) in
-    let all : turn .i ≡ length name = omega (arith, c .before .before .name-length .ensures) in
-    (c .before .before .name-length .ensures, turn .inv .1 .here ∙ ap (λ (k : ℕ). front (list (λ (j : ℕ). getD name j 0) k) (c .before .before .before .before .args .bytes .now)) all ∙ ap (λ (l : List ℕ). front l (c .before .before .before .before .args .bytes .now)) (list-own name 0))
+    let count = c .before .before .name-length .ensures in
+    (count, filled-own (nameOf (c .before .before .before .before .args .key)) _ _ 0 (turn .i) (turn .inv .1) (omega (arith, count)))
 
 pub write-name-spec : {M : Type 1} → statement M
 write-name-spec =

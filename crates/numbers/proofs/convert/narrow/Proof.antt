@@ -5,14 +5,14 @@ use mathlib.Core.Bool.{true, false}
 use Prim.Native.Nat.{_-_}
 use native.Mathlib.Omega.{arith}
 use lib.Dec.{T}
-use lib.Ieee.{binary64, fits, isNan, neg, ofBits, toBits}
+use lib.Ieee.{binary32, binary64, fits, isNan, neg, ofBits, toBits}
 use lib.Ieee.Bits.{ofBits-toBits, toBits-lt}
 use borrow.Author.Tests.{le-leb}
 use Rattle.laws.specs.Values.{negative, magnitudeOf}
-use Rattle.laws.proofs.Signs.{sign-bit, clear-is, magnitude-clear, magnitude-read}
+use Rattle.laws.proofs.Signs.{made-nan, sign-bit, clear-is, magnitude-clear, magnitude-read}
 use Rattle.laws.proofs.Patterns.{number-pattern}
 use Rattle.laws.proofs.Table.{told}
-use Rattle.numbers.proofs.Tests.{number, made-nan}
+use Rattle.numbers.proofs.Tests.{number}
 use Rattle.numbers.proofs.Narrows.{read-back, read-lt, read-number, narrowed-minus, narrowed-nan}
 use Rattle.numbers.proofs.convert.narrow.Statement.{statement}
 use Rattle.numbers.proofs.convert.narrow.Tie as tie
@@ -21,7 +21,7 @@ is-nan-requires : tie.Need-is-nan-requires
 is-nan-requires c κs = search needs
 
 returns : tie.Need-returns
-returns c = made-nan ∙ narrowed-nan (c .before .before .args .x) (c .before .is-nan .ensures) (c .if1 .taken)
+returns c = made-nan binary32 ∙ narrowed-nan (c .before .before .args .x) (c .before .is-nan .ensures) (c .if1 .taken)
 
 float-to-bits-bits : tie.Need-float-to-bits-bits
 float-to-bits-bits c = number (c .before .before .args .x) (c .before .is-nan .ensures) (c .if1 .left)

@@ -5,9 +5,10 @@ use native.Mathlib.Omega.{arith}
 use lib.Dec.{T}
 use lib.Ieee.{binary32, fits}
 use lib.Ieee.Bits.{toBits-lt}
+use Rattle.laws.proofs.Signs.{made-nan}
 use Rattle.laws.proofs.Patterns.{number-pattern, pattern-number}
 use Rattle.laws.proofs.Table.{told}
-use Rattle.numbers.proofs.Tests.{number, made-nan}
+use Rattle.numbers.proofs.Tests.{number}
 use Rattle.numbers.proofs.Special.{root-of-nan, root-of-infinity, root-of-zero, root-below, root-by-pattern}
 use Rattle.numbers.proofs.root.square_root.Statement.{statement}
 use Rattle.numbers.proofs.root.square_root.Tie as tie
@@ -32,7 +33,7 @@ returns-3 : tie.Need-returns-3
 returns-3 c = root-of-zero _ (held (c .before .before .before .before)) (c .if3 .taken)
 
 returns-4 : tie.Need-returns-4
-returns-4 c = made-nan ∙ root-below _ (held (c .before .before .before .before .before)) (c .if4 .taken)
+returns-4 c = made-nan binary32 ∙ root-below _ (held (c .before .before .before .before .before)) (c .if4 .taken)
 
 root-of-bits-requires : tie.Need-root-of-bits-requires
 root-of-bits-requires c κs =

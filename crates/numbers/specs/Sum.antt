@@ -1,0 +1,15 @@
+-- The sum of floats, as the Rust's `iter().sum()`: from -0, left to right, each sum rounded. Definitions only.
+use Prim.Native.Nat.{ℕ}
+use mathlib.Core.List.{List}
+use lib.ListN.{getD}
+use lib.Ieee.{Float, nan, binary32, add}
+use Rattle.laws.specs.Values.{minusZero}
+use Rattle.laws.specs.Turns.{turns}
+
+-- value i is added
+abbrev pub sumTurn : List Float → ℕ → Float → Float
+sumTurn values i sum = add binary32 sum (getD values i nan)
+
+-- of the first n values
+unfoldable pub sumOf : ℕ → List Float → Float
+sumOf n values = turns (sumTurn values) n 0 minusZero

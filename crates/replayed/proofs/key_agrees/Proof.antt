@@ -1,0 +1,73 @@
+-- The callees' definitions, put together.
+use borrow.Author.Needs.{needs}
+use Rattle.replayed.specs.Records.{sameKey}
+use Rattle.replayed.proofs.key_agrees.Statement.{statement}
+use Rattle.replayed.proofs.key_agrees.Tie as tie
+
+key-number-requires : tie.Need-key-number-requires
+key-number-requires c κs = search needs
+
+cast-number : tie.Need-cast-number
+cast-number c = search needs
+
+key-confidence-requires : tie.Need-key-confidence-requires
+key-confidence-requires c κs = search needs
+
+add-word-at : tie.Need-add-word-at
+add-word-at c = search needs
+
+word-at-requires : tie.Need-word-at-requires
+word-at-requires c κs = search needs
+
+add-value-at : tie.Need-add-value-at
+add-value-at c = search needs
+
+value-at-requires : tie.Need-value-at-requires
+value-at-requires c κs = search needs
+
+same-value-requires : tie.Need-same-value-requires
+same-value-requires c κs = search needs
+
+add-value-at-2 : tie.Need-add-value-at-2
+add-value-at-2 c = search needs
+
+value-at-requires-2 : tie.Need-value-at-requires-2
+value-at-requires-2 c κs = search needs
+
+same-value-requires-2 : tie.Need-same-value-requires-2
+same-value-requires-2 c κs = search needs
+
+add-value-at-3 : tie.Need-add-value-at-3
+add-value-at-3 c = search needs
+
+value-at-requires-3 : tie.Need-value-at-requires-3
+value-at-requires-3 c κs = search needs
+
+same-value-requires-3 : tie.Need-same-value-requires-3
+same-value-requires-3 c κs = search needs
+
+returns : tie.Need-returns
+unfolding sameKey
+returns c =
+    let word = c .before .before .before .before .before .before in
+    rw (c .same-value3 .ensures, c .before .value-at3 .ensures, c .before .before .same-value2 .ensures, c .before .before .before .value-at2 .ensures, c .before .before .before .before .same-value .ensures, c .before .before .before .before .before .value-at .ensures, word .word-at .ensures, word .before .key-confidence .ensures, word .before .before .key-number .ensures)
+
+pub key-agrees-spec : {M : Type 1} → statement M
+key-agrees-spec =
+    tie.close
+    (tie.spec
+    key-number-requires
+    cast-number
+    key-confidence-requires
+    add-word-at
+    word-at-requires
+    add-value-at
+    value-at-requires
+    same-value-requires
+    add-value-at-2
+    value-at-requires-2
+    same-value-requires-2
+    add-value-at-3
+    value-at-requires-3
+    same-value-requires-3
+    returns)

@@ -1,0 +1,55 @@
+-- Stored answers of the Rust, record by record: 40 numbers of 32 bits, lowest byte first. Definitions only.
+use Prim.Native.Nat.{ℕ, _+_, _*_}
+use mathlib.Core.Bool.{Bool, true, not, _&&_, cond}
+use mathlib.Core.List.{List}
+use lib.Dec.{eqb}
+use lib.ListN.{getD}
+use lib.Ieee.{Float, nan, binary32, ofBits}
+use Rattle.laws.specs.Turns.{turns}
+use Rattle.laws.specs.Front.{list}
+use Rattle.laws.specs.Order.{orderKey}
+use Rattle.keys.specs.Numbers.{keyNumber}
+use Rattle.scores.specs.declared.classify.Classified.{Classified}
+use Rattle.scores.specs.Classify.{confidenceOf, classifiedOf}
+
+unfoldable pub wordAt : List ℕ → ℕ → ℕ
+wordAt bytes at = getD bytes at 0 + getD bytes (at + 1) 0 * 0x100 + getD bytes (at + 2) 0 * 0x1_0000 + getD bytes (at + 3) 0 * 0x100_0000
+
+unfoldable pub valueAt : List ℕ → ℕ → Float
+valueAt bytes at = ofBits binary32 (wordAt bytes at)
+
+-- the same order key, which tells values apart
+abbrev pub sameValue : Float → Float → Bool
+sameValue a b = eqb (orderKey binary32 a) (orderKey binary32 b)
+
+-- the record's first twelve numbers
+unfoldable pub chromaAt : List ℕ → ℕ → List Float
+chromaAt bytes start = list (λ (i : ℕ). valueAt bytes (start + 4 * i)) 12
+
+-- the next 24
+abbrev pub scoreTurn : List ℕ → ℕ → List Float → ℕ → Bool → Bool
+scoreTurn bytes start scores k same = same && sameValue (getD scores k nan) (valueAt bytes (start + 48 + 4 * k))
+
+unfoldable pub sameScores : List ℕ → ℕ → List Float → Bool
+sameScores bytes start scores = turns (scoreTurn bytes start scores) 24 0 true
+
+-- the last four
+unfoldable pub sameKey : List ℕ → ℕ → Classified → Bool
+sameKey bytes start c =
+    eqb (keyNumber (c .key)) (wordAt bytes (start + 144))
+    && sameValue (c .best) (valueAt bytes (start + 148))
+    && sameValue (c .second) (valueAt bytes (start + 152))
+    && sameValue (confidenceOf (c .best) (c .second)) (valueAt bytes (start + 156))
+
+abbrev pub judges : List ℕ → ℕ → Classified → Bool
+judges bytes start c = sameScores bytes start (c .scores) && sameKey bytes start c
+
+unfoldable pub agrees : List ℕ → ℕ → Bool
+agrees bytes start = judges bytes start (classifiedOf (chromaAt bytes start))
+
+abbrev pub recordTurn : List ℕ → ℕ → ℕ → ℕ
+recordTurn bytes n differ = cond (not (agrees bytes (n * 160))) (differ + 1) differ
+
+-- how many of the first records say something else
+unfoldable pub differing : List ℕ → ℕ → ℕ
+differing bytes count = turns (recordTurn bytes) count 0 0

@@ -1,0 +1,68 @@
+-- From what a function's callees and tests say to its definition, on plain values.
+use mathlib.Core.Path.{_≡_, sym, ap, _∙_}
+use Prim.Native.Nat.{ℕ}
+use mathlib.Core.Bool.{Bool, true, false, not, _&&_, cond}
+use mathlib.Core.List.{List}
+use lib.Ieee.{Float, binary32, ofBits, sub, mul, div, lt}
+use Rattle.laws.specs.Values.{magnitudeOf, plusZero, one}
+use Rattle.laws.specs.Pick.{maximumNumber}
+use Rattle.numbers.specs.Sum.{sumOf}
+use Rattle.numbers.specs.Root.{rootOf}
+use Rattle.keys.specs.Numbers.{areRelativeKeys}
+use Rattle.scores.specs.declared.correlation.Sums.{Sums}
+use Rattle.scores.specs.declared.places.Place.{Place}
+use Rattle.scores.specs.declared.places.Places.{Places}
+use Rattle.scores.specs.Places.{ranked, placed}
+use Rattle.scores.specs.Correlation.{epsilon, sumsOf, quotientOf, correlationOf}
+use Rattle.scores.specs.Classify.{louder, chosenKey, clamped, confidenceOf}
+
+-- a correlation, from its means, sums, root and divisor
+pub correlated : (chroma profile : List Float) (root : ℕ) {mean weight spread divisor : Float} {s : Sums}
+    → mean ≡ sumOf 12 chroma → weight ≡ sumOf 12 profile
+    → s ≡ sumsOf chroma profile root (div binary32 mean (ofBits binary32 0x4140_0000)) (div binary32 weight (ofBits binary32 0x4140_0000))
+    → spread ≡ rootOf (mul binary32 (s .chroma) (s .profile)) → divisor ≡ maximumNumber spread epsilon
+    → div binary32 (s .products) divisor ≡ correlationOf chroma profile root
+unfolding correlationOf quotientOf
+correlated chroma profile root {s} m w e r d = rw (d, r, e, m, w)
+
+-- the places, by the test that a score passes
+module _ (p : Places) (candidate : Place) where
+  pub takes-first : lt (p .first .score) (candidate .score) ≡ true → ranked candidate (p .first) ≡ placed p candidate
+  unfolding placed
+  takes-first t = rw t
+
+  pub takes-second : lt (p .first .score) (candidate .score) ≡ false → lt (p .second .score) (candidate .score) ≡ true → ranked (p .first) candidate ≡ placed p candidate
+  unfolding placed
+  takes-second s t = rw (s, t)
+
+  pub takes-none : lt (p .first .score) (candidate .score) ≡ false → lt (p .second .score) (candidate .score) ≡ false → p ≡ placed p candidate
+  unfolding placed
+  takes-none s t = rw (s, t)
+
+-- the key chosen, from the three tests
+pub chosen : (chroma : List Float) (p : Places) {relative loud : Bool} (taken : Bool)
+    → relative ≡ areRelativeKeys (p .first .key) (p .second .key) → loud ≡ louder chroma (p .first .key) (p .second .key)
+    → (not (lt (ofBits binary32 0x3d4c_cccd) (sub binary32 (p .first .score) (p .second .score))) && relative && loud) ≡ taken
+    → cond taken (p .second .key) (p .first .key) ≡ chosenKey chroma p
+unfolding chosenKey
+chosen chroma p taken r l t = rw (← t, r, l)
+
+-- a confidence, from the size of the best score
+module _ (best second : Float) {size : Float} (e : size ≡ magnitudeOf best) where
+  pub clear-margin : lt epsilon size ≡ true → clamped (div binary32 (sub binary32 best second) size) ≡ confidenceOf best second
+  unfolding confidenceOf
+  clear-margin t = rw (sym (ap (lt epsilon) e) ∙ t, e)
+
+  pub no-margin : lt epsilon size ≡ false → plusZero ≡ confidenceOf best second
+  unfolding confidenceOf
+  no-margin t = rw (sym (ap (lt epsilon) e) ∙ t)
+
+-- the clamp, by its tests
+pub clamped-below : (x : Float) → lt x plusZero ≡ true → plusZero ≡ clamped x
+clamped-below x t = rw t
+
+pub clamped-above : (x : Float) → lt x plusZero ≡ false → lt one x ≡ true → one ≡ clamped x
+clamped-above x s t = rw (s, t)
+
+pub clamped-between : (x : Float) → lt x plusZero ≡ false → lt one x ≡ false → x ≡ clamped x
+clamped-between x s t = rw (s, t)

@@ -1,0 +1,5 @@
+pub mod Profiles
+pub mod Correlation
+pub mod Scores
+pub mod Places
+pub mod Classify

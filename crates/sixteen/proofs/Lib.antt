@@ -1,0 +1,2 @@
+-- The one theorem over all rows.
+pub mod Hold

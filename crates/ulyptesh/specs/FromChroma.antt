@@ -1,0 +1,51 @@
+-- The promises of `ulyptesh_scores` and `ulyptesh_key`, each as one definition of what the call is given. Definitions and the statements.
+use mathlib.Core.Path.{_≡_}
+use mathlib.Core.List.{List, [], _∷_}
+use mathlib.Core.Bool.{not}
+use lib.Dec.{eqb, ltb}
+use lib.ListN.{length}
+use lib.Ieee.{Float}
+use Rattle.laws.specs.Front.{front}
+use Rattle.laws.specs.Table.{_gives_, firstOf, anyOf}
+use Rattle.laws.specs.Values.{plusZero}
+use Rattle.keys.specs.Numbers.{keyNumber}
+use Rattle.scores.specs.declared.classify.Classified.{Classified}
+use Rattle.scores.specs.Scores.{scoresOf}
+use Rattle.scores.specs.Classify.{confidenceOf, classifiedOf}
+use Rattle.ulyptesh.specs.declared.from_chroma.ScoresResult.{ScoresResult}
+use Rattle.ulyptesh.specs.declared.from_chroma.KeyResult.{KeyResult}
+
+-- ---- the 24 scores
+-- what the call answers, and what it leaves in the lent places
+pub record ScoresOutcome : Type 0 where
+  pub answer : ScoresResult
+  pub places : List Float
+
+abbrev pub scoresOutcome : ScoresResult → List Float → ScoresOutcome
+scoresOutcome answer places = record { answer = answer; places = places }
+
+-- 18 for a chroma not of 12 numbers or fewer than 24 places leaves the places as they are; else the scores stand at their front
+abbrev pub scoresCall : List Float → List Float → ScoresOutcome
+scoresCall chroma places =
+    firstOf
+    ((anyOf (not (eqb (length chroma) 12) ∷ ltb (length places) 24 ∷ []) gives scoresOutcome (record { refusal = 18 }) places)
+    ∷ [])
+    (scoresOutcome (record { refusal = 0 }) (front (scoresOf chroma) places))
+
+abbrev pub ScoresUnique : Type 0
+ScoresUnique = (chroma places : List Float) (a b : ScoresOutcome) → a ≡ scoresCall chroma places → b ≡ scoresCall chroma places → a ≡ b
+
+-- ---- the key
+-- the answer for a classified chroma
+unfoldable pub judged : Classified → KeyResult
+judged c = record { refusal = 0; key = keyNumber (c .key); best = c .best; second = c .second; confidence = confidenceOf (c .best) (c .second) }
+
+-- 18 for a chroma not of 12 numbers, with no key, which is 24, and zeros
+abbrev pub noChroma : KeyResult
+noChroma = record { refusal = 18; key = 24; best = plusZero; second = plusZero; confidence = plusZero }
+
+abbrev pub keyCall : List Float → KeyResult
+keyCall chroma = firstOf ((not (eqb (length chroma) 12) gives noChroma) ∷ []) (judged (classifiedOf chroma))
+
+abbrev pub KeyUnique : Type 0
+KeyUnique = (chroma : List Float) (a b : KeyResult) → a ≡ keyCall chroma → b ≡ keyCall chroma → a ≡ b
