@@ -18,23 +18,38 @@ epsilon = ofBits binary32 0x3400_0000
 abbrev pub meanOf : List Float → Float
 meanOf values = div binary32 (sumOf 12 values) (ofBits binary32 0x4140_0000)
 
--- one pitch class more, with each side's distance from its mean
+-- how far value i is from the mean
+abbrev pub distance : List Float → Float → ℕ → Float
+distance values mean i = sub binary32 (getD values i nan) mean
+
+-- the profile's value for pitch class i: it is read rotated by the root
+abbrev pub rotated : ℕ → ℕ → ℕ
+rotated root i = (i + 12 - root) % 12
+
+-- ---- three sums over the pitch classes from C up: products, and squares of either side; the profile's squares are summed in rotated order
+abbrev pub productTurn : List Float → List Float → ℕ → Float → Float → ℕ → Float → Float
+productTurn chroma profile root mean weight i sum = add binary32 sum (mul binary32 (distance chroma mean i) (distance profile weight (rotated root i)))
+
+abbrev pub chromaTurn : List Float → Float → ℕ → Float → Float
+chromaTurn chroma mean i sum = add binary32 sum (mul binary32 (distance chroma mean i) (distance chroma mean i))
+
+abbrev pub profileTurn : List Float → ℕ → Float → ℕ → Float → Float
+profileTurn profile root weight i sum = add binary32 sum (mul binary32 (distance profile weight (rotated root i)) (distance profile weight (rotated root i)))
+
+unfoldable pub sumsOf : List Float → List Float → ℕ → Float → Float → Sums
+sumsOf chroma profile root mean weight = record {
+  products = turns (productTurn chroma profile root mean weight) 12 0 plusZero;
+  chroma = turns (chromaTurn chroma mean) 12 0 plusZero;
+  profile = turns (profileTurn profile root weight) 12 0 plusZero;
+}
+
+-- what one pitch class adds to the three, with each side's distance from its mean
 unfoldable pub added : Sums → Float → Float → Sums
 added s chroma profile = record {
   products = add binary32 (s .products) (mul binary32 chroma profile);
   chroma = add binary32 (s .chroma) (mul binary32 chroma chroma);
   profile = add binary32 (s .profile) (mul binary32 profile profile);
 }
-
--- pitch class i: the profile is read rotated by the root
-abbrev pub classTurn : List Float → List Float → ℕ → Float → Float → ℕ → Sums → Sums
-classTurn chroma profile root mean weight i s = added s (sub binary32 (getD chroma i nan) mean) (sub binary32 (getD profile ((i + 12 - root) % 12) nan) weight)
-
-abbrev pub noSums : Sums
-noSums = record { products = plusZero; chroma = plusZero; profile = plusZero }
-
-unfoldable pub sumsOf : List Float → List Float → ℕ → Float → Float → Sums
-sumsOf chroma profile root mean weight = turns (classTurn chroma profile root mean weight) 12 0 noSums
 
 -- the products over the root of both squares, which is held up by epsilon
 unfoldable pub quotientOf : Sums → Float

@@ -9,12 +9,12 @@ use Rattle.numbers.specs.Sum.{sumOf}
 use Rattle.numbers.specs.Root.{wholeRoot, doubledRoot, rootOfUnits, rootOf}
 use Rattle.keys.specs.Numbers.{tonics}
 use Rattle.scores.specs.Profiles.{profiles, profileAt}
-use Rattle.scores.specs.Correlation.{added, sumsOf, quotientOf, correlationOf}
+use Rattle.scores.specs.Correlation.{sumsOf, quotientOf, correlationOf}
 use Rattle.scores.specs.Scores.{scoreOf, scoresOf}
 use Rattle.scores.specs.Places.{placed, candidateAt, placesOf}
 use Rattle.scores.specs.Classify.{louder, chosenKey, confidenceOf, classifiedOf}
 use Rattle.sixteen.specs.Rows.{rowM, rowN, rows, RowsHold}
 
 pub rows-hold : RowsHold
-unfolding rows rowM rowN every isNan lt eq add sub mul div neg toBits ofBits turns list magnitudeOf maximumNumber sumOf wholeRoot doubledRoot rootOfUnits rootOf tonics profiles profileAt added sumsOf quotientOf correlationOf scoreOf scoresOf placed candidateAt placesOf louder chosenKey confidenceOf classifiedOf
+unfolding rows rowM rowN every isNan lt eq add sub mul div neg toBits ofBits turns list magnitudeOf maximumNumber sumOf wholeRoot doubledRoot rootOfUnits rootOf tonics profiles profileAt sumsOf quotientOf correlationOf scoreOf scoresOf placed candidateAt placesOf louder chosenKey confidenceOf classifiedOf
 rows-hold = tt

@@ -1,24 +1,21 @@
 -- A pitch class a turn.
 use borrow.Author.Needs.{needs}
-use mathlib.Core.Path.{_≡_}
 use native.Mathlib.Omega.{arith}
 use Prim.Native.Nat.{_≤_, _-_}
-use Rattle.laws.specs.Turns.{turns}
-use Rattle.laws.proofs.Turns.{turns-start, turns-again, turns-end}
 use lib.Ieee.{ofBits}
-use Rattle.scores.specs.Correlation.{classTurn, sumsOf}
+use Rattle.scores.proofs.Summed.{Summed, summed-start, summed-more, summed-end}
 use Rattle.scores.proofs.correlation.sum_classes.Statement.{statement}
 use Rattle.scores.proofs.correlation.sum_classes.Tie as tie
 
 abbrev Inv-loop : tie.InvT-loop
-Inv-loop chroma profile root mean weight sums₀ i₀ sums i = (i ≤ 12) × (turns (classTurn chroma profile root mean weight) (12 - i) i sums ≡ sumsOf chroma profile root mean weight)
+Inv-loop chroma profile root mean weight sums₀ i₀ sums i = (i ≤ 12) × Summed chroma profile root mean weight sums i
 
 abbrev μ-loop : tie.MeasureT-loop
 μ-loop chroma profile root mean weight sums₀ i₀ sums i = 12 - i
 
 loop-holds : tie.Need-loop-holds Inv-loop μ-loop
-unfolding ofBits sumsOf
-loop-holds c = (omega arith, turns-start _ _ _)
+unfolding ofBits
+loop-holds c = (omega arith, summed-start _ _ _ _ _)
 
 add-away : tie.Need-add-away Inv-loop μ-loop
 add-away c = search needs
@@ -50,10 +47,10 @@ loop-less c = search needs
 loop-again : tie.Need-loop-again Inv-loop μ-loop
 loop-again c =
     let turn = c .before .before .before .before in
-    (omega arith, turns-again _ 12 (turn .loop .i) (turn .loop .inv .1) (c .before .before .before .loop-test .taken) (c .add-class .ensures))
+    (omega arith, summed-more _ _ _ _ _ (turn .loop .sums) (turn .loop .i) (turn .loop .inv .1) (c .before .before .before .loop-test .taken) (c .add-class .ensures))
 
 returns : tie.Need-returns Inv-loop μ-loop
-returns c = turns-end _ 12 (c .before .loop .i) (c .before .loop .inv .1) (c .loop-test .left)
+returns c = summed-end _ _ _ _ _ (c .before .loop .sums) (c .before .loop .i) (c .before .loop .inv .1) (c .loop-test .left)
 
 pub sum-classes-spec : {M : Type 1} → statement M
 sum-classes-spec =
