@@ -2,7 +2,7 @@
 use mathlib.Core.Bool.{Bool, false, true, not}
 use lib.IntN.{pos}
 use lib.Dec.{T}
-use lib.Ieee.{Float, nan, inf, fin, Format, emax, fits, lt}
+use lib.Ieee.{Float, nan, inf, fin, Format, binary32, emax, fits, lt, ofBits}
 
 -- IEEE 754 5.7.2 isSignMinus: -0 has the minus sign too
 abbrev pub negative : Float → Bool
@@ -49,6 +49,10 @@ one = fin false 1 (pos 0)
 -- 2.0
 abbrev pub two : Float
 two = fin false 1 (pos 1)
+
+-- 2^-23, Rust's f32::EPSILON
+abbrev pub epsilon : Float
+epsilon = ofBits binary32 0x3400_0000
 
 -- the format f holds x, which is finite and has the sign plus
 pub record Held (f : Format) (x : Float) : Type 0 where

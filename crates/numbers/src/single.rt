@@ -4,7 +4,7 @@ ghost use lib.Ieee.{binary32, isNan};
 ghost use lib.Ieee.Scale.{finite};
 ghost use Rattle.laws.specs.Values.{negative, magnitudeOf};
 ghost use Rattle.laws.specs.Order.{totalOrder, orderKey};
-ghost use Rattle.laws.specs.Pick.{maximumNumber, minimumNumber};
+ghost use Rattle.laws.specs.Pick.{maximumNumber, minimumNumber, clampedTo};
 
 // Whether x is a NaN: a NaN, and nothing else, differs from itself.
 pub fn is_nan(x: f32) -> bool
@@ -79,4 +79,17 @@ pub fn smaller(a: f32, b: f32) -> f32
     } else {
         a
     }
+}
+
+// Rust's `x.clamp(low, high)`.
+pub fn clamp(x: f32, low: f32, high: f32) -> f32
+    ensures { λ r. ⌜ r ≡ clampedTo low high x ⌝ }
+{
+    if x < low {
+        return low;
+    }
+    if x > high {
+        return high;
+    }
+    x
 }

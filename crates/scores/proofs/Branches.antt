@@ -4,8 +4,8 @@ use Prim.Native.Nat.{ℕ}
 use mathlib.Core.Bool.{Bool, true, false, not, _&&_, cond}
 use mathlib.Core.List.{List}
 use lib.Ieee.{Float, binary32, ofBits, sub, mul, div, lt}
-use Rattle.laws.specs.Values.{magnitudeOf, plusZero, one}
-use Rattle.laws.specs.Pick.{maximumNumber}
+use Rattle.laws.specs.Values.{magnitudeOf, plusZero, one, epsilon}
+use Rattle.laws.specs.Pick.{maximumNumber, clampedTo}
 use Rattle.numbers.specs.Sum.{sumOf}
 use Rattle.numbers.specs.Root.{rootOf}
 use Rattle.keys.specs.Numbers.{areRelativeKeys}
@@ -13,8 +13,8 @@ use Rattle.scores.specs.declared.correlation.Sums.{Sums}
 use Rattle.scores.specs.declared.places.Place.{Place}
 use Rattle.scores.specs.declared.places.Places.{Places}
 use Rattle.scores.specs.Places.{ranked, placed}
-use Rattle.scores.specs.Correlation.{epsilon, sumsOf, quotientOf, correlationOf}
-use Rattle.scores.specs.Classify.{louder, chosenKey, clamped, confidenceOf}
+use Rattle.scores.specs.Correlation.{sumsOf, quotientOf, correlationOf}
+use Rattle.scores.specs.Classify.{louder, chosenKey, confidenceOf}
 
 -- a correlation, from its means, sums, root and divisor
 pub correlated : (chroma profile : List Float) (root : ℕ) {mean weight spread divisor : Float} {s : Sums}
@@ -49,20 +49,10 @@ chosen chroma p taken r l t = rw (← t, r, l)
 
 -- a confidence, from the size of the best score
 module _ (best second : Float) {size : Float} (e : size ≡ magnitudeOf best) where
-  pub clear-margin : lt epsilon size ≡ true → clamped (div binary32 (sub binary32 best second) size) ≡ confidenceOf best second
+  pub clear-margin : {margin : Float} → lt epsilon size ≡ true → margin ≡ clampedTo plusZero one (div binary32 (sub binary32 best second) size) → margin ≡ confidenceOf best second
   unfolding confidenceOf
-  clear-margin t = rw (sym (ap (lt epsilon) e) ∙ t, e)
+  clear-margin t m = m ∙ rw (sym (ap (lt epsilon) e) ∙ t, e)
 
   pub no-margin : lt epsilon size ≡ false → plusZero ≡ confidenceOf best second
   unfolding confidenceOf
   no-margin t = rw (sym (ap (lt epsilon) e) ∙ t)
-
--- the clamp, by its tests
-pub clamped-below : (x : Float) → lt x plusZero ≡ true → plusZero ≡ clamped x
-clamped-below x t = rw t
-
-pub clamped-above : (x : Float) → lt x plusZero ≡ false → lt one x ≡ true → one ≡ clamped x
-clamped-above x s t = rw (s, t)
-
-pub clamped-between : (x : Float) → lt x plusZero ≡ false → lt one x ≡ false → x ≡ clamped x
-clamped-between x s t = rw (s, t)

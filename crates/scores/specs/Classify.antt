@@ -3,12 +3,12 @@ use mathlib.Core.Bool.{Bool, not, _&&_, cond}
 use mathlib.Core.List.{List}
 use lib.ListN.{getD}
 use lib.Ieee.{Float, nan, binary32, ofBits, sub, mul, div, lt}
-use Rattle.laws.specs.Values.{magnitudeOf, plusZero, one}
+use Rattle.laws.specs.Values.{magnitudeOf, plusZero, one, epsilon}
+use Rattle.laws.specs.Pick.{clampedTo}
 use Rattle.keys.specs.declared.Key.{Key}
 use Rattle.keys.specs.Numbers.{tonicNumber, areRelativeKeys}
 use Rattle.scores.specs.declared.places.Places.{Places}
 use Rattle.scores.specs.declared.classify.Classified.{Classified}
-use Rattle.scores.specs.Correlation.{epsilon}
 use Rattle.scores.specs.Scores.{scoresOf}
 use Rattle.scores.specs.Places.{placesOf}
 
@@ -26,13 +26,9 @@ chosenKey chroma p =
     cond (not (lt (ofBits binary32 0x3d4c_cccd) (sub binary32 (p .first .score) (p .second .score))) && areRelativeKeys (p .first .key) (p .second .key) && louder chroma (p .first .key) (p .second .key))
     (p .second .key) (p .first .key)
 
--- the Rust's clamp to 0 and 1, which keeps a NaN and -0
-abbrev pub clamped : Float → Float
-clamped x = cond (lt x plusZero) plusZero (cond (lt one x) one x)
-
 -- the margin over the size of the best score, and 0 where that is at most epsilon
 unfoldable pub confidenceOf : Float → Float → Float
-confidenceOf best second = cond (lt epsilon (magnitudeOf best)) (clamped (div binary32 (sub binary32 best second) (magnitudeOf best))) plusZero
+confidenceOf best second = cond (lt epsilon (magnitudeOf best)) (clampedTo plusZero one (div binary32 (sub binary32 best second) (magnitudeOf best))) plusZero
 
 abbrev pub classified : List Float → List Float → Places → Classified
 classified chroma scores p = record { key = chosenKey chroma p; best = p .first .score; second = p .second .score; scores = scores }

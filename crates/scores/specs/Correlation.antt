@@ -4,15 +4,11 @@ use mathlib.Core.List.{List}
 use lib.ListN.{getD}
 use lib.Ieee.{Float, nan, binary32, ofBits, add, sub, mul, div}
 use Rattle.laws.specs.Turns.{turns}
-use Rattle.laws.specs.Values.{plusZero}
+use Rattle.laws.specs.Values.{plusZero, epsilon}
 use Rattle.laws.specs.Pick.{maximumNumber}
 use Rattle.numbers.specs.Sum.{sumOf}
 use Rattle.numbers.specs.Root.{rootOf}
 use Rattle.scores.specs.declared.correlation.Sums.{Sums}
-
--- 2^-23, the Rust's f32::EPSILON
-abbrev pub epsilon : Float
-epsilon = ofBits binary32 0x3400_0000
 
 -- the mean of twelve values; 0x4140_0000 is 12
 abbrev pub meanOf : List Float → Float

@@ -7,6 +7,7 @@ use crate::scoring::score_keys;
 use keys::Key;
 use keys::numbers::are_relative_keys;
 use keys::numbers::tonic_number;
+use numbers::single::clamp;
 use numbers::single::magnitude;
 
 // The Rust's `(key, best, second, scores)`.
@@ -51,14 +52,7 @@ pub fn key_confidence(best: f32, second: f32) -> f32
 {
     let size = magnitude(best);
     if size > 0.00000011920929 {
-        let margin = (best - second) / size;
-        if margin < 0.0 {
-            return 0.0;
-        }
-        if margin > 1.0 {
-            return 1.0;
-        }
-        margin
+        clamp((best - second) / size, 0.0, 1.0)
     } else {
         0.0
     }

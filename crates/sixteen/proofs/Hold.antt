@@ -4,7 +4,7 @@ use Rattle.laws.specs.Turns.{turns}
 use Rattle.laws.specs.Every.{every}
 use Rattle.laws.specs.Front.{list}
 use Rattle.laws.specs.Values.{magnitudeOf}
-use Rattle.laws.specs.Pick.{maximumNumber}
+use Rattle.laws.specs.Pick.{maximumNumber, clampedTo}
 use Rattle.numbers.specs.Sum.{sumOf}
 use Rattle.numbers.specs.Root.{wholeRoot, doubledRoot, rootOfUnits, rootOf}
 use Rattle.keys.specs.Numbers.{tonics}
@@ -16,5 +16,5 @@ use Rattle.scores.specs.Classify.{louder, chosenKey, confidenceOf, classifiedOf
 use Rattle.sixteen.specs.Rows.{rowM, rowN, rows, RowsHold}
 
 pub rows-hold : RowsHold
-unfolding rows rowM rowN every isNan lt eq add sub mul div neg toBits ofBits turns list magnitudeOf maximumNumber sumOf wholeRoot doubledRoot rootOfUnits rootOf tonics profiles profileAt sumsOf quotientOf correlationOf scoreOf scoresOf placed candidateAt placesOf louder chosenKey confidenceOf classifiedOf
+unfolding rows rowM rowN every isNan lt eq add sub mul div neg toBits ofBits turns list magnitudeOf maximumNumber clampedTo sumOf wholeRoot doubledRoot rootOfUnits rootOf tonics profiles profileAt sumsOf quotientOf correlationOf scoreOf scoresOf placed candidateAt placesOf louder chosenKey confidenceOf classifiedOf
 rows-hold = tt

@@ -1,0 +1,4 @@
+// A chroma's own leaves: whitening, normalising, onset weights, tuning.
+pub mod levels;
+pub mod onsets;
+pub mod tuning;
