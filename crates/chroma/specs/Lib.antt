@@ -1,3 +1,4 @@
 pub mod Levels
 pub mod Onsets
 pub mod Tuning
+pub mod Shift

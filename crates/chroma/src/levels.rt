@@ -2,7 +2,7 @@
 ghost use mathlib.Core.Path.{_≡_};
 ghost use Rattle.chroma.specs.Levels.{whitened, whitenedOf, dividedBy, normalizedOf};
 use numbers::root::square_root;
-use numbers::sums::sum_of_twelve;
+use numbers::twelve::sum_of_twelve;
 
 // The square root of a value above 0; any other stays.
 fn whiten_value(x: f32) -> f32

@@ -16,7 +16,11 @@ fn add_bin(peaks: Peaks, before: f32, height: f32, after: f32) -> Peaks
     ensures { λ r. ⌜ r ≡ peakAdded peaks before height after ⌝ }
 {
     let bend = 2.0 * height - before - after;
-    if (height > before) & (height > after) & (height > 0.00000011920929) & (bend > 0.00000011920929) {
+    if (height > before)
+        & (height > after)
+        & (height > 0.00000011920929)
+        & (bend > 0.00000011920929)
+    {
         let offset = 0.5 * (after - before) / bend;
         return Peaks {
             heights: peaks.heights + height,

@@ -17,4 +17,5 @@ pub mod Convert
 pub mod Middle
 pub mod Pick
 pub mod Parts
+pub mod Cuts
 pub mod Total

@@ -1,14 +1,14 @@
 -- The whole number at or below a float, from the whole part of its size.
 use mathlib.Core.Path.{_≡_, refl, sym, ap, _∙_, subst}
-use Prim.Native.Nat.{ℕ, suc, _+_, _-_, _*_, _/_, _%_, _^_, _≤_, _<_, min}
+use Prim.Native.Nat.{ℕ, suc, _+_, _*_, _/_, _%_, _^_, _≤_, _<_}
 use native.Mathlib.Nat.{le-trans, le-of-lt, mod-one, pow-succ', mul-one, mul-right-comm, eq-of-mul-eq-mul-right, div-add-mod', div-lt-iff-lt-mul}
 use native.Mathlib.Numerals.{add-one}
 use native.Mathlib.Omega.{arith}
-use mathlib.Core.Bool.{Bool, true, false, not, _&&_, cond, true≢false, false≢true}
+use mathlib.Core.Bool.{Bool, true, false, _&&_, cond, true≢false, false≢true}
 use lib.IntN.{ℤ, pos, negsuc}
-use lib.Dec.{T, eqb, lt→ltb, eqb→eq, lit≤}
+use lib.Dec.{T, eqb, eqb→eq, lit≤}
 use lib.Pow.{pow-pos}
-use lib.Ieee.{Float, nan, inf, fin, binary32, up, down, fits, isNan, lt, le, eq, neg, round, ofInt, toUnsigned}
+use lib.Ieee.{Float, nan, inf, fin, binary32, up, down, fits, isNan, lt, le, eq, neg, round, ofInt}
 use lib.Ieee.Fits.{and-i, and-l, eq→eqb, down-pos}
 use lib.Ieee.Exact.{HasValue}
 use lib.Ieee.Back.{round-whole}
@@ -16,15 +16,15 @@ use borrow.Author.Tests.{eq-eqb, eqb-true}
 use Rattle.laws.specs.Values.{negative, magnitudeOf}
 use Rattle.laws.proofs.Cases.{same-test}
 use Rattle.laws.proofs.Signs.{nan-is, neg-round}
-use Rattle.laws.proofs.Order.{not-le→lt}
-use Rattle.laws.proofs.Nonneg.{le→cross, lt→cross}
+use Rattle.laws.proofs.Nonneg.{le→cross}
 use Rattle.laws.proofs.Held.{fitting}
+use Rattle.laws.proofs.Cuts.{powerOfTwo, Under, under, cutOf, cut-is, may-cut as cuts, cut-small as cut-under}
 use Rattle.numbers.specs.Floor.{floored, downTo}
 use Rattle.laws.proofs.Table.{told}
 
 -- 2^23, from which on every binary32 value is whole
 abbrev pub limit : Float
-limit = fin false 1 (pos 23)
+limit = powerOfTwo 23
 
 -- ---- from 2^23 on
 -- m < 2^24 and 2^23 ≤ m / 2^(k + 1) do not go together
@@ -51,50 +51,17 @@ unfolding floored
 floor-of-nan x e t = let z : x ≡ nan = nan-is x (told e t) in rw z
 
 -- ---- below 2^23
--- x is a number with a size below 2^23
 abbrev pub Small : Float → Type 0
-Small nan = ⊥
-Small (inf s) = ⊥
-Small (fin s m e) = m * up e < 8388608 * down e
+Small x = Under 23 x
 
 pub small : (x : Float) {flag : Bool} → flag ≡ isNan x → flag ≡ false → le limit (magnitudeOf x) ≡ false → Small x
-unfolding isNan magnitudeOf
-small nan e t b = absurd (true≢false (told e t))
-small (inf s) e t b = let big : le limit (inf false) ≡ true = unfold le in refl in absurd (true≢false (sym big ∙ b))
-small (fin s m e) f t b =
-    subst (λ (a : ℕ). a < 8388608 * down e) (mul-one (m * up e))
-    (lt→cross (fin false m e) limit tt tt (not-le→lt (fin false m e) limit tt tt (subst (λ (c : Bool). T (not c)) (sym b) tt)))
+small x e t b = under 23 x (told e t) b
 
 pub may-cut : (x : Float) → Small x → T (lt (fin true 1 (pos 0)) (magnitudeOf x)) × T (lt (magnitudeOf x) (fin false 1 (pos 64)))
-unfolding lt magnitudeOf
-may-cut nan h = absurd h
-may-cut (inf s) h = absurd h
-may-cut (fin s m e) h = (
-  lt→ltb 0 (1 * 1 * down e + m * up e * 1) (some (down e) (m * up e) (down-pos e)),
-  lt→ltb (m * up e * 1) (1 * 2 ^ 64 * down e) (far (down e) (m * up e) h),
-)
-  where
-    some : (d n : ℕ) → 0 < d → 0 < 1 * 1 * d + n * 1
-    some d n h = omega arith
-
-    far : (d n : ℕ) → n < 8388608 * d → n * 1 < 18446744073709551616 * d
-    far d n h = omega arith
-
--- the whole part of the size
-abbrev pub cutOf : Float → ℕ
-cutOf x = toUnsigned 64 (magnitudeOf x)
-
-uncapped : (q : ℕ) → q < 8388608 → min q (2 ^ 64 - 1) ≡ q
-uncapped q h = omega arith
-
-cut-is : (s : Bool) (m : ℕ) (e : ℤ) → Small (fin s m e) → cutOf (fin s m e) ≡ m * up e / down e
-unfolding toUnsigned magnitudeOf
-cut-is s m e h = uncapped (m * up e / down e) (div-lt-iff-lt-mul (down-pos e) .1 h)
+may-cut x h = cuts 23 (lit≤ tt) x h
 
 pub cut-small : (x : Float) → Small x → cutOf x < 8388608
-cut-small nan h = absurd h
-cut-small (inf s) h = absurd h
-cut-small (fin s m e) h = subst (λ (q : ℕ). q < 8388608) (sym (cut-is s m e h)) (div-lt-iff-lt-mul (down-pos e) .1 h)
+cut-small x h = cut-under 23 (lit≤ tt) x h
 
 -- ---- the whole part, as a float, against the size
 -- y is q, and the size is q and what is left over: they are equal just where nothing is
@@ -122,7 +89,7 @@ left-over (fin false n d) m e v =
 pub test-is : (s : Bool) (m : ℕ) (e : ℤ) → Small (fin s m e) → eq (ofInt binary32 (pos (cutOf (fin s m e)))) (magnitudeOf (fin s m e)) ≡ eqb (m * up e % down e) 0
 unfolding ofInt magnitudeOf
 test-is s m e h =
-    ap (λ (q : ℕ). eq (round binary32 false q 1) (fin false m e)) (cut-is s m e h)
+    ap (λ (q : ℕ). eq (round binary32 false q 1) (fin false m e)) (cut-is 23 (lit≤ tt) s m e h)
     ∙ left-over (round binary32 false (m * up e / down e) 1) m e (round-whole binary32 false (m * up e / down e) (le-trans (le-of-lt (div-lt-iff-lt-mul (down-pos e) .1 h)) (lit≤ tt)))
 
 pub floor-of-whole : (x : Float) → Small x → eq (ofInt binary32 (pos (cutOf x))) (magnitudeOf x) ≡ true → x ≡ floored x
@@ -134,7 +101,7 @@ floor-of-whole (fin s m e) h t = itself s m e (eqb-true (m * up e % down e) 0 (s
 step-down : (s : Bool) (m : ℕ) (e : ℤ) → Small (fin s m e) → eq (ofInt binary32 (pos (cutOf (fin s m e)))) (magnitudeOf (fin s m e)) ≡ false → ofInt binary32 (downTo s (cutOf (fin s m e))) ≡ floored (fin s m e)
 unfolding floored
 step-down s m e h t =
-    ap (λ (q : ℕ). ofInt binary32 (downTo s q)) (cut-is s m e h)
+    ap (λ (q : ℕ). ofInt binary32 (downTo s q)) (cut-is 23 (lit≤ tt) s m e h)
     ∙ sym (ap (λ (b : Bool). cond b (fin s m e) (ofInt binary32 (downTo s (m * up e / down e)))) (sym (test-is s m e h) ∙ t))
 
 pub floor-of-positive : (x : Float) → Small x → negative x ≡ false → eq (ofInt binary32 (pos (cutOf x))) (magnitudeOf x) ≡ false → ofInt binary32 (pos (cutOf x)) ≡ floored x

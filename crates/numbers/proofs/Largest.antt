@@ -1,22 +1,20 @@
 -- The floor of a float is the largest whole number not above it: by its whole part where the sign is plus, and by the next where it is minus.
-use mathlib.Core.Path.{_≡_, refl, sym, ap, _∙_, subst, subst₂}
-use Prim.Native.Nat.{ℕ, suc, _+_, _*_, _/_, _%_, _^_, _≤_, _<_, zero-le}
-use native.Mathlib.Nat.{le-trans, le-of-eq, le-of-lt, lt-of-le-of-lt, lt-of-lt-of-le, lt-of-not-le, lt-suc-self, lt-irrefl, mul-one, one-mul, zero-mul, mul-comm, div-mul-le-self, div-add-mod', div-lt-iff-lt-mul, le-div-iff-mul-le, lt-of-mul-lt-mul-right, mul-mod-left, zero-mod}
+use mathlib.Core.Path.{_≡_, refl, sym, ap, _∙_, subst}
+use Prim.Native.Nat.{ℕ, suc, _+_, _*_, _/_, _%_, _^_, _≤_, _<_}
+use native.Mathlib.Nat.{le-trans, le-of-eq, le-of-lt, lt-of-lt-of-le, lt-of-not-le, lt-suc-self, mul-one, one-mul, zero-mul, div-mul-le-self, div-add-mod', div-lt-iff-lt-mul, le-div-iff-mul-le, lt-of-mul-lt-mul-right, mul-mod-left, zero-mod}
 use native.Mathlib.Omega.{arith}
-use mathlib.Core.Bool.{Bool, true, false, not, cond}
-use lib.IntN.{ℤ, pos, negsuc}
+use mathlib.Core.Bool.{Bool, true, false, not}
+use lib.IntN.{ℤ}
 use lib.Dec.{T, eqb, eqb→eq, T-not, lit≤}
 use lib.Arith.{lt-of-le-ne}
-use lib.Ieee.{Float, nan, inf, fin, binary32, up, down, fits, le, neg, round, ofInt}
+use lib.Ieee.{Float, nan, inf, fin, binary32, up, down, le, neg, round, ofInt}
 use lib.Ieee.Fits.{down-pos, eq→eqb}
 use lib.Ieee.Exact.{HasValue}
 use lib.Ieee.Order.{le-of-values, transfer}
-use lib.Ieee.Scale.{finite}
 use lib.Ieee.Back.{round-whole}
-use lib.Ieee.Positive.{num, den}
-use Rattle.laws.specs.Values.{negative, clear, nonneg, plusZero}
+use Rattle.laws.specs.Values.{plusZero}
 use Rattle.laws.proofs.Cases.{by-test}
-use Rattle.laws.proofs.Signs.{neg-neg, neg-round}
+use Rattle.laws.proofs.Signs.{neg-round}
 use Rattle.laws.proofs.Order.{le-refl, le-neg, le-trans as order-trans, apart-le}
 use Rattle.laws.proofs.Nonneg.{le→cross, nonneg→clear}
 use Rattle.laws.proofs.Held.{fitting, value-nonneg}

@@ -4,5 +4,5 @@ pub mod convert;
 pub mod double;
 pub mod root;
 pub mod single;
-pub mod sums;
+pub mod twelve;
 pub mod whole;

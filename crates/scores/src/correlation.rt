@@ -6,7 +6,7 @@ ghost use Rattle.scores.specs.Correlation.{added, sumsOf, correlationOf}
 use crate::profiles::PROFILES;
 use numbers::root::square_root;
 use numbers::single::larger;
-use numbers::sums::sum_of_twelve;
+use numbers::twelve::sum_of_twelve;
 
 // The running sums of a correlation: products, and squares of either side.
 pub struct Sums {

@@ -1,11 +1,13 @@
 -- The checker computes every row.
-use lib.Ieee.{isNan, lt, eq, add, sub, mul, div, neg, toBits, ofBits}
+use lib.Ieee.{ofInt, toSigned, isNan, lt, eq, add, sub, mul, div, neg, toBits, ofBits}
 use Rattle.laws.specs.Turns.{turns}
 use Rattle.laws.specs.Every.{every}
 use Rattle.laws.specs.Front.{list}
 use Rattle.laws.specs.Values.{magnitudeOf}
 use Rattle.laws.specs.Pick.{maximumNumber, clampedTo}
 use Rattle.numbers.specs.Sum.{sumOf}
+use Rattle.numbers.specs.Floor.{floored}
+use Rattle.chroma.specs.Shift.{classOf, blended, readAt, shifted}
 use Rattle.numbers.specs.Root.{wholeRoot, doubledRoot, rootOfUnits, rootOf}
 use Rattle.keys.specs.Numbers.{tonics}
 use Rattle.scores.specs.Profiles.{profiles, profileAt}
@@ -13,8 +15,8 @@ use Rattle.scores.specs.Correlation.{sumsOf, quotientOf, correlationOf}
 use Rattle.scores.specs.Scores.{scoreOf, scoresOf}
 use Rattle.scores.specs.Places.{placed, candidateAt, placesOf}
 use Rattle.scores.specs.Classify.{louder, chosenKey, confidenceOf, classifiedOf}
-use Rattle.sixteen.specs.Rows.{rowM, rowN, rows, RowsHold}
+use Rattle.sixteen.specs.Rows.{rowL, rowM, rowN, rows, RowsHold}
 
 pub rows-hold : RowsHold
-unfolding rows rowM rowN every isNan lt eq add sub mul div neg toBits ofBits turns list magnitudeOf maximumNumber clampedTo sumOf wholeRoot doubledRoot rootOfUnits rootOf tonics profiles profileAt sumsOf quotientOf correlationOf scoreOf scoresOf placed candidateAt placesOf louder chosenKey confidenceOf classifiedOf
+unfolding rows rowL rowM rowN classOf blended readAt shifted floored ofInt toSigned every isNan lt eq add sub mul div neg toBits ofBits turns list magnitudeOf maximumNumber clampedTo sumOf wholeRoot doubledRoot rootOfUnits rootOf tonics profiles profileAt sumsOf quotientOf correlationOf scoreOf scoresOf placed candidateAt placesOf louder chosenKey confidenceOf classifiedOf
 rows-hold = tt

@@ -1,13 +1,14 @@
 -- Document 01's sixteen rows, a to p, each as a test of the definitions that the checker computes. Definitions and the statement.
 use Prim.Native.Nat.{ℕ}
 use mathlib.Core.Bool.{Bool, true, _&&_}
-use mathlib.Core.List.{List, [], _∷_}
+use mathlib.Core.List.{List, [], _∷_, _++_}
 use lib.Dec.{T, eqb}
 use lib.ListN.{getD, replicate}
-use lib.Ieee.{Float, nan, binary32, isNan, toBits}
+use lib.Ieee.{Float, nan, binary32, isNan, ofBits, toBits}
 use Rattle.laws.specs.Every.{every}
-use Rattle.laws.specs.Values.{plusZero}
+use Rattle.laws.specs.Values.{plusZero, one}
 use Rattle.keys.specs.Numbers.{keyNumber}
+use Rattle.chroma.specs.Shift.{shiftedOf}
 use Rattle.scores.specs.declared.classify.Classified.{Classified}
 use Rattle.scores.specs.Classify.{confidenceOf, classifiedOf}
 
@@ -15,6 +16,18 @@ use Rattle.scores.specs.Classify.{confidenceOf, classifiedOf}
 pub record Row : Type 0 where
   pub letter : ℕ
   pub holds : Bool
+
+-- ---- l: a chroma shifted by half a bin
+-- bin 11 is 1, the others 0
+abbrev pub onlyB : List Float
+onlyB = replicate 11 plusZero ++ (one ∷ [])
+
+-- bins 0 and 11 are 0.5, whose pattern is 0x3f00_0000, and the others 0
+abbrev pub halves : List ℕ
+halves = 0x3f00_0000 ∷ replicate 10 0 ++ (0x3f00_0000 ∷ [])
+
+unfoldable pub rowL : Row
+rowL = record { letter = 108; holds = every (λ (k : ℕ). eqb (toBits binary32 (getD (shiftedOf onlyB (ofBits binary32 0x3f00_0000)) k nan)) (getD halves k 1)) 12 }
 
 -- ---- m and n: what a chroma of twelve equal values tells
 -- each score and the confidence pass a test, and the key is number 0
@@ -35,7 +48,7 @@ rowN = record { letter = 110; holds = tells isPlusZero (classifiedOf (replicate 
 
 -- ---- the table
 unfoldable pub rows : List Row
-rows = rowM ∷ rowN ∷ []
+rows = rowL ∷ rowM ∷ rowN ∷ []
 
 abbrev pub allHold : List Row → Bool
 allHold [] = true

@@ -5,6 +5,7 @@ ghost use lib.ListN.{length};
 ghost use Rattle.laws.specs.Front.{front};
 ghost use Rattle.ulyptesh.specs.FromChroma.{scoresOutcome, scoresCall, judged, keyCall};
 use keys::numbers::key_number;
+use numbers::twelve::twelve_values;
 use scores::classify::Classified;
 use scores::classify::classify_key;
 use scores::classify::key_confidence;
@@ -24,20 +25,6 @@ pub struct KeyResult {
     pub best: f32,
     pub second: f32,
     pub confidence: f32,
-}
-
-// The twelve values of a chroma.
-fn twelve_values(chroma: &[f32]) -> [f32; 12]
-    requires { ⌜ length (now chroma) ≡ 12 ⌝ }
-    ensures { λ r. ⌜ r ≡ now (chroma .entry) ⌝ }
-{
-    let mut values = [0.0; 12];
-    let mut i = 0;
-    while i < 12 {
-        values[i] = chroma[i];
-        i += 1;
-    }
-    values
 }
 
 // Writes the scores from the front of `out`.

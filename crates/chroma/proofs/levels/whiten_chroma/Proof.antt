@@ -4,7 +4,7 @@ use mathlib.Core.Path.{refl}
 use native.Mathlib.Omega.{arith}
 use Prim.Native.Nat.{ℕ, _≤_, _-_}
 use lib.ListN.{getD}
-use lib.Ieee.{nan, binary32, div}
+use lib.Ieee.{nan}
 use Rattle.laws.proofs.Front.{Filled, filled-start, filled-more, filled-whole}
 use Rattle.chroma.specs.Levels.{whitened, whitenedOf}
 use Rattle.chroma.proofs.levels.whiten_chroma.Statement.{statement}

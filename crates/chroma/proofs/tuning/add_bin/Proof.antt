@@ -1,5 +1,4 @@
 -- The tests joined are those of the definition.
-use borrow.Author.Needs.{needs}
 
 use lib.Ieee.{ofBits}
 use Rattle.chroma.specs.Tuning.{peakAdded}

@@ -8,7 +8,8 @@ use lib.IntN.{pos}
 use lib.Dec.{T, le→leb}
 use lib.Ieee.{binary32, le, eq, ofInt, ofBits, inFloat, toUnsigned}
 use Rattle.laws.specs.Values.{magnitudeOf}
-use Rattle.numbers.proofs.Floors.{limit, Small, small, may-cut, cutOf, cut-small, floor-of-nan, floor-of-big, floor-of-whole, floor-of-positive, floor-of-negative}
+use Rattle.laws.proofs.Cuts.{cutOf}
+use Rattle.numbers.proofs.Floors.{limit, Small, small, may-cut, cut-small, floor-of-nan, floor-of-big, floor-of-whole, floor-of-positive, floor-of-negative}
 use Rattle.numbers.proofs.whole.floor.Statement.{statement}
 use Rattle.numbers.proofs.whole.floor.Tie as tie
 

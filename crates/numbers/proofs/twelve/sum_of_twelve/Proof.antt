@@ -8,8 +8,8 @@ use Rattle.laws.specs.Turns.{turns}
 use Rattle.laws.specs.Values.{minusZero}
 use Rattle.laws.proofs.Turns.{turns-start, turns-again, turns-end}
 use Rattle.numbers.specs.Sum.{sumTurn, sumOf}
-use Rattle.numbers.proofs.sums.sum_of_twelve.Statement.{statement}
-use Rattle.numbers.proofs.sums.sum_of_twelve.Tie as tie
+use Rattle.numbers.proofs.twelve.sum_of_twelve.Statement.{statement}
+use Rattle.numbers.proofs.twelve.sum_of_twelve.Tie as tie
 
 abbrev Inv-loop : tie.InvT-loop
 Inv-loop values sum₀ i₀ sum i = (i ≤ 12) × (turns (sumTurn values) (12 - i) i sum ≡ turns (sumTurn values) 12 0 minusZero)

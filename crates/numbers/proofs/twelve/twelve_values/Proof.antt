@@ -6,14 +6,14 @@ use Prim.Native.Nat.{ℕ, _≤_, _-_}
 use lib.ListN.{getD}
 use lib.Ieee.{nan}
 use Rattle.laws.proofs.Front.{Filled, filled-start, filled-more, filled-own, front-all}
-use Rattle.ulyptesh.proofs.from_chroma.twelve_values.Statement.{statement}
-use Rattle.ulyptesh.proofs.from_chroma.twelve_values.Tie as tie
+use Rattle.numbers.proofs.twelve.twelve_values.Statement.{statement}
+use Rattle.numbers.proofs.twelve.twelve_values.Tie as tie
 
 abbrev Inv-loop : tie.InvT-loop
-Inv-loop chroma values₀ i₀ values i = (i ≤ 12) × Filled (λ (k : ℕ). getD chroma k nan) values₀ values i
+Inv-loop slice values₀ i₀ values i = (i ≤ 12) × Filled (λ (k : ℕ). getD slice k nan) values₀ values i
 
 abbrev μ-loop : tie.MeasureT-loop
-μ-loop chroma values₀ i₀ values i = 12 - i
+μ-loop slice values₀ i₀ values i = 12 - i
 
 loop-holds : tie.Need-loop-holds Inv-loop μ-loop
 loop-holds c = (omega arith, filled-start _ _)
@@ -41,8 +41,8 @@ loop-again c = let turn = c .before .before .loop in (omega arith, filled-more _
 
 returns : tie.Need-returns Inv-loop μ-loop
 returns c =
-    let chroma = c .before .before .args .chroma .now in
-    filled-own chroma _ _ nan (c .before .loop .i) (c .before .loop .inv .1) (omega arith) ∙ front-all chroma _ (c .before .before .pre)
+    let slice = c .before .before .args .slice .now in
+    filled-own slice _ _ nan (c .before .loop .i) (c .before .loop .inv .1) (omega arith) ∙ front-all slice _ (c .before .before .pre)
 
 pub twelve-values-spec : {M : Type 1} → statement M
 twelve-values-spec =
