@@ -1,4 +1,13 @@
 //! The leaves of the library, exported for the comparison and the speed table; no product calls them.
+use crate::scores::PITCH_CLASSES;
+
+type Chroma = [f32; PITCH_CLASSES];
+
+/// A chroma as a call answers it.
+#[repr(C)]
+struct Twelve {
+    values: Chroma,
+}
 
 unsafe extern "C" {
     pub safe fn probe_square_root(x: f32) -> f32;
@@ -22,4 +31,44 @@ unsafe extern "C" {
     pub safe fn probe_key_number(number: u32) -> u32;
     pub safe fn probe_same_key(a: u32, b: u32) -> bool;
     pub safe fn probe_are_relative_keys(a: u32, b: u32) -> bool;
+
+    safe fn probe_whiten(chroma: &Chroma) -> Twelve;
+    safe fn probe_normalize(chroma: &Chroma) -> Twelve;
+    safe fn probe_shift(chroma: &Chroma, offset: f32) -> Twelve;
+    fn probe_onset_weight(energies: *const f32, lent: usize, place: usize) -> f32;
+    fn probe_tuning(frames: *const Chroma, lent: usize, count: usize) -> f32;
+    fn probe_median(work: *mut f32, lent: usize, count: usize) -> f32;
+}
+
+/// The square roots of the numbers above 0, the others as they are.
+pub fn whiten(chroma: &Chroma) -> Chroma {
+    probe_whiten(chroma).values
+}
+
+/// The chroma divided by its sum, where that is above 2^-23.
+pub fn normalize(chroma: &Chroma) -> Chroma {
+    probe_normalize(chroma).values
+}
+
+/// The onset weight of the frame at a place; 0 behind the last one.
+pub fn onset_weight(energies: &[f32], place: usize) -> f32 {
+    // SAFETY: pointer and count are one slice, which outlives the call.
+    unsafe { probe_onset_weight(energies.as_ptr(), energies.len(), place) }
+}
+
+/// The tuning of the first `count` frames; 0 where there are fewer.
+pub fn tuning(frames: &[Chroma], count: usize) -> f32 {
+    // SAFETY: pointer and count are one slice of rows, which outlives the call.
+    unsafe { probe_tuning(frames.as_ptr(), frames.len(), count) }
+}
+
+/// The chroma shifted up by an offset in bins.
+pub fn shift(chroma: &Chroma, offset: f32) -> Chroma {
+    probe_shift(chroma, offset).values
+}
+
+/// The median of the first `count` numbers, which are zero afterwards; 0 where there are none or fewer.
+pub fn median(work: &mut [f32], count: usize) -> f32 {
+    // SAFETY: pointer and count are one exclusive slice, which outlives the call.
+    unsafe { probe_median(work.as_mut_ptr(), work.len(), count) }
 }

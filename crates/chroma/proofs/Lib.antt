@@ -1,2 +1,4 @@
 -- What the functions' proofs share, on plain values.
 mod Classes
+mod Emptied
+mod Shifts

@@ -1,9 +1,10 @@
--- Shifting a chroma between its bins, written from the Rust's `shift_chroma`, over the direction in which a bin reads. Definitions only.
-use Prim.Native.Nat.{ℕ, _+_, _-_, _%_}
+-- Shifting a chroma between its bins, written from the Rust's `shift_chroma`, over the direction in which a bin reads. Definitions and the statements.
+use mathlib.Core.Path.{_≡_}
+use Prim.Native.Nat.{ℕ, _+_, _-_, _%_, _<_}
 use mathlib.Core.Bool.{cond}
 use mathlib.Core.List.{List}
 use lib.IntN.{ℤ, pos, negsuc}
-use lib.ListN.{getD}
+use lib.ListN.{length, getD}
 use lib.Ieee.{Float, nan, binary32, add, sub, mul, lt, ofBits, ofInt, toSigned}
 use Rattle.laws.specs.Front.{list}
 use Rattle.laws.specs.Values.{one, magnitudeOf}
@@ -40,3 +41,11 @@ shiftedOf = shifted (sub binary32)
 
 abbrev pub retunedOf : List Float → Float → List Float
 retunedOf = retuned (sub binary32)
+
+-- ---- what holds in every direction
+module _ (direction : Float → Float → Float) (chroma : List Float) (offset : Float) where
+  abbrev pub EachBinReads : Type 0
+  EachBinReads = (bin : ℕ) → bin < 12 → getD (shifted direction chroma offset) bin nan ≡ readAt chroma (direction (ofInt binary32 (pos bin)) offset)
+
+  abbrev pub TwelveStay : Type 0
+  TwelveStay = length chroma ≡ 12 → length (retuned direction chroma offset) ≡ 12

@@ -1,5 +1,6 @@
-// A chroma's own leaves: whitening, normalising, onset weights, tuning.
+// A chroma's own leaves: whitening, normalising, onset weights, weighted medians, tuning, shift.
 pub mod levels;
 pub mod onsets;
 pub mod shift;
 pub mod tuning;
+pub mod weighted;

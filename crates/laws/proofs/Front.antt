@@ -94,11 +94,15 @@ list-own xs d =
 pub front-all : {A : Type 0} (xs m : List A) → length xs ≡ length m → front xs m ≡ xs
 front-all xs m h = rw (h, drop-length m, append-nil xs)
 
+-- a slice that was written as far as n
+pub filled-to : {A : Type 0} (f : ℕ → A) (m₀ m : List A) (i n : ℕ) → Filled f m₀ m i → i ≡ n → m ≡ front (list f n) m₀
+filled-to f m₀ m i n e h = e .here ∙ ap (λ (k : ℕ). front (list f k) m₀) h
+
 -- a slice that was copied over, entry by entry
 pub filled-own : {A : Type 0} (xs m₀ m : List A) (d : A) (n : ℕ) → Filled (λ (k : ℕ). getD xs k d) m₀ m n → n ≡ length xs → m ≡ front xs m₀
-filled-own xs m₀ m d n e h = e .here ∙ ap (λ (k : ℕ). front (list (λ (j : ℕ). getD xs j d) k) m₀) h ∙ ap (λ (l : List _). front l m₀) (list-own xs d)
+filled-own xs m₀ m d n e h = filled-to _ m₀ m n (length xs) e h ∙ ap (λ (l : List _). front l m₀) (list-own xs d)
 
 -- an array that was written to its end
 pub filled-whole : {A : Type 0} (f : ℕ → A) (m₀ m : List A) (n count : ℕ) → Filled f m₀ m n → n ≡ count → count ≡ length m₀ → m ≡ list f count
 filled-whole f m₀ m n count e h l =
-    e .here ∙ ap (λ (k : ℕ). front (list f k) m₀) h ∙ front-all (list f count) m₀ (length-list f count ∙ l)
+    filled-to f m₀ m n count e h ∙ front-all (list f count) m₀ (length-list f count ∙ l)

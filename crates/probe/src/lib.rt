@@ -1,4 +1,6 @@
 // The leaves, exported for the comparison with the Rust. Never shipped.
+pub mod chroma_leaves;
 pub mod keys_by_number;
+pub mod medians_of_work;
 pub mod numbers_f32;
 pub mod numbers_f64;

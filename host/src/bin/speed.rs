@@ -11,7 +11,7 @@ mod random;
 use random::patterns;
 use std::hint::black_box;
 use std::time::Instant;
-use ulyptesh_host::probe::{probe_narrow, probe_square_root};
+use ulyptesh_host::probe::{median, probe_narrow, probe_square_root};
 
 const SEED: u64 = 44_100;
 const VALUES: usize = 1 << 14;
@@ -22,9 +22,13 @@ fn fixed_patterns() -> impl Iterator<Item = u64> {
     patterns(SEED, 0).take(VALUES)
 }
 
-/// Positive normal values from 2^-32 to 2^32, as samples and energies are.
+/// A positive normal value from 2^-32 to 2^32, as samples and energies are.
+fn ordinary_value(pattern: u64) -> f64 {
+    f64::from_bits((1023 - 32 + (pattern >> 58)) << 52 | pattern >> 12)
+}
+
 fn ordinary() -> impl Iterator<Item = f64> {
-    fixed_patterns().map(|pattern| f64::from_bits((1023 - 32 + (pattern >> 58)) << 52 | pattern >> 12))
+    fixed_patterns().map(ordinary_value)
 }
 
 /// The sum of the results' bits keeps every result needed.
@@ -53,11 +57,11 @@ fn row<X: Copy>(
     let values: Vec<X> = values.collect();
     let our_time = fastest(|| nanoseconds(&values, &ours));
     let their_time = fastest(|| nanoseconds(&values, &theirs));
-    println!("{name:30} {our_time:8.2} {their_time:9.2} {:7.2}", our_time / their_time);
+    println!("{name:30} {our_time:10.2} {their_time:10.2} {:7.2}", our_time / their_time);
 }
 
 fn header(what: &str, theirs: &str) {
-    println!("{what:30} {:>8} {theirs:>9} {:>7}", "ours", "ratio");
+    println!("{what:30} {:>10} {theirs:>10} {:>7}", "ours", "ratio");
 }
 
 fn leaf_rows() {
@@ -71,6 +75,21 @@ fn leaf_rows() {
     );
     row("narrow, ordinary values", ordinary(), |x| probe_narrow(x), |x| x as f32);
     row("narrow, mixed patterns", fixed_patterns().map(f64::from_bits), |x| probe_narrow(x), |x| x as f32);
+}
+
+/// Both sides work on a copy, whose making counts.
+fn median_row() {
+    const COUNT: usize = 10_000;
+    const SETS: usize = 4;
+    header("ns for one median", "Rust");
+    let values: Vec<f32> =
+        patterns(SEED, 1).take(SETS * COUNT).map(|pattern| ordinary_value(pattern) as f32).collect();
+    row(
+        "median, 10,000 ordinary values",
+        values.chunks_exact(COUNT),
+        |set| median(&mut set.to_vec(), COUNT),
+        |set| *set.to_vec().select_nth_unstable_by(COUNT / 2, f32::total_cmp).1,
+    );
 }
 
 #[cfg(oracle)]
@@ -92,6 +111,7 @@ fn chroma_rows() {
 
 fn main() {
     leaf_rows();
+    median_row();
     #[cfg(oracle)]
     chroma_rows();
 }

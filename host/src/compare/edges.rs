@@ -34,7 +34,8 @@ pub fn special_values<F: Format>() -> Vec<F> {
         .collect()
 }
 
-fn with_neighbours(x: f32) -> [f32; 3] {
+/// A number between the one before and the one after it.
+pub fn with_neighbours(x: f32) -> [f32; 3] {
     [x.next_down(), x, x.next_up()]
 }
 
@@ -46,7 +47,7 @@ fn squares() -> impl Iterator<Item = f32> {
 }
 
 /// Whole numbers and halves, and those around the powers of two where halves and then ones end.
-fn wholes_and_halves() -> impl Iterator<Item = f32> {
+pub fn wholes_and_halves() -> impl Iterator<Item = f32> {
     let around = |power: u32| (1u32 << power) - 100..(1 << power) + 100;
     (0..20_000)
         .chain(around(22))

@@ -5,6 +5,9 @@ use std::time::Instant;
 /// So many differences of one group are printed.
 const PRINTED: u64 = 5;
 
+/// So many of a long run are shown.
+const SHOWN: usize = 16;
+
 /// What goes into a comparison or comes out of it.
 pub trait Compared {
     /// Equal bit for bit; every NaN equals every other.
@@ -65,6 +68,17 @@ impl<A: Compared, const N: usize> Compared for [A; N] {
 
     fn shown(&self) -> String {
         self.each_ref().map(A::shown).join(", ")
+    }
+}
+
+impl<A: Compared> Compared for Vec<A> {
+    fn same(&self, other: &Self) -> bool {
+        self.len() == other.len() && self.iter().zip(other).all(|(one, another)| one.same(another))
+    }
+
+    fn shown(&self) -> String {
+        let front = self.iter().take(SHOWN).map(A::shown).collect::<Vec<_>>().join(", ");
+        format!("{} in all, from {front}", self.len())
     }
 }
 

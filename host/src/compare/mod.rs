@@ -2,11 +2,14 @@
 extern crate key_lime;
 
 mod borderline;
+mod chroma_edges;
+mod chroma_leaves;
 mod chromas;
 mod edges;
 mod format;
 mod groups;
 mod keys;
+mod medians;
 mod numbers;
 mod orders;
 mod random;
@@ -49,6 +52,8 @@ fn compare(given: &Options) -> ExitCode {
     orders::compare(&mut groups);
     keys::compare(&mut groups);
     scores::compare(&mut groups);
+    chroma_leaves::compare(&mut groups);
+    medians::compare(&mut groups);
     groups.close()
 }
 

@@ -1,0 +1,74 @@
+-- The work numbers are written from the front, a frame a turn.
+use borrow.Author.Needs.{needs}
+use native.Mathlib.Omega.{arith}
+use Prim.Native.Nat.{_≤_, _-_}
+use Rattle.laws.proofs.Front.{Filled, filled-start, filled-more, filled-to}
+use Rattle.chroma.specs.Weighted.{weightedAt}
+use Rattle.chroma.proofs.weighted.weigh_bin.Statement.{statement}
+use Rattle.chroma.proofs.weighted.weigh_bin.Tie as tie
+
+abbrev Inv-loop : tie.InvT-loop
+Inv-loop frames energies bin count work₀ j₀ work j = (j ≤ count) × Filled (weightedAt frames energies bin) work₀ work j
+
+abbrev μ-loop : tie.MeasureT-loop
+μ-loop frames energies bin count work₀ j₀ work j = count - j
+
+loop-holds : tie.Need-loop-holds Inv-loop μ-loop
+loop-holds c = (omega arith, filled-start _ _)
+
+mul-values : tie.Need-mul-values Inv-loop μ-loop
+mul-values c = search needs
+
+shared-slice-copy-out-values : tie.Need-shared-slice-copy-out-values Inv-loop μ-loop
+shared-slice-copy-out-values c = search needs
+
+mul-work : tie.Need-mul-work Inv-loop μ-loop
+mul-work c = search needs
+
+array-read-work : tie.Need-array-read-work Inv-loop μ-loop
+array-read-work c = search needs
+
+weight-at-requires : tie.Need-weight-at-requires Inv-loop μ-loop
+weight-at-requires c κs = search needs
+
+mul-work-2 : tie.Need-mul-work-2 Inv-loop μ-loop
+mul-work-2 c = search needs
+
+slice-write-work : tie.Need-slice-write-work Inv-loop μ-loop
+slice-write-work c = let l = c .before .before .before .loop .inv .1 .long in omega arith
+
+add-j : tie.Need-add-j Inv-loop μ-loop
+add-j c = search needs
+
+loop-less : tie.Need-loop-less Inv-loop μ-loop
+loop-less c = search needs
+
+loop-again : tie.Need-loop-again Inv-loop μ-loop
+unfolding weightedAt
+loop-again c = let turn = c .before .before .before .loop in (omega arith, rw (c .weight-at .ensures) (filled-more _ _ _ (turn .j) (turn .inv .1) (omega arith)))
+
+same-length : tie.Need-same-length Inv-loop μ-loop
+same-length c = c .before .loop .inv .1 .long
+
+returns : tie.Need-returns Inv-loop μ-loop
+returns c = let last = c .before in filled-to _ _ _ (last .loop .j) (last .before .before .before .args .count) (last .loop .inv .1) (omega arith)
+
+pub weigh-bin-spec : {M : Type 1} → statement M
+weigh-bin-spec =
+    tie.close
+    (tie.spec
+    Inv-loop
+    μ-loop
+    loop-holds
+    mul-values
+    shared-slice-copy-out-values
+    mul-work
+    array-read-work
+    weight-at-requires
+    mul-work-2
+    slice-write-work
+    add-j
+    loop-less
+    loop-again
+    same-length
+    returns)

@@ -1,0 +1,42 @@
+// The medians of the values weighted by onset, bin by bin.
+ghost use mathlib.Core.Path.{_≡_};
+ghost use Prim.Native.Nat.{_<_, _≤_};
+ghost use lib.ListN.{length, replicate};
+ghost use Rattle.laws.specs.Front.{front, list};
+ghost use Rattle.laws.specs.Values.{plusZero};
+ghost use Rattle.chroma.specs.Weighted.{weightedAt, weightedMedians};
+use crate::onsets::weight_at;
+use medians::select;
+
+// Work number j becomes the bin's value in frame j times the frame's weight.
+fn weigh_bin(frames: &[[f32; 12]], energies: &[f32], bin: usize, count: usize, work: &mut [f32])
+    requires { ⌜ (bin < 12) × (count ≤ length (now frames)) × (count ≤ length (now energies)) × (count ≤ length (now work)) ⌝ }
+    ensures { λ r. ⌜ now (work .exit) ≡ front (list (weightedAt (now (frames .entry)) (now (energies .entry)) bin) count) (now (work .entry)) ⌝ }
+{
+    let mut j = 0;
+    while j < count {
+        let values = frames[j];
+        work[j] = values[bin] * weight_at(energies, j);
+        j += 1;
+    }
+}
+
+// Every bin's median over the first `count` frames; the work numbers used end as +0.
+pub fn weighted_medians(
+    frames: &[[f32; 12]],
+    energies: &[f32],
+    count: usize,
+    work: &mut [f32],
+) -> [f32; 12]
+    requires { ⌜ (0 < count) × (count ≤ length (now frames)) × (count ≤ length (now energies)) × (count ≤ length (now work)) ⌝ }
+    ensures { λ r. ⌜ (r ≡ weightedMedians (now (frames .entry)) (now (energies .entry)) count) × (now (work .exit) ≡ front (replicate count plusZero) (now (work .entry))) ⌝ }
+{
+    let mut chroma = [0.0; 12];
+    let mut bin = 0;
+    while bin < 12 {
+        weigh_bin(frames, energies, bin, count, work);
+        chroma[bin] = select(work, count);
+        bin += 1;
+    }
+    chroma
+}

@@ -1,0 +1,40 @@
+-- The value with the key at the middle rank is the median; then the values are zeroed.
+use mathlib.Core.Path.{_∙_}
+use native.Mathlib.Omega.{arith}
+use Rattle.medians.proofs.Found.{median-by-key}
+use borrow.Author.Needs.{needs}
+use Rattle.medians.proofs.select.Statement.{statement}
+use Rattle.medians.proofs.select.Tie as tie
+
+middle-rank-requires : tie.Need-middle-rank-requires
+middle-rank-requires c κs = search needs
+
+find-key-requires : tie.Need-find-key-requires
+find-key-requires c κs = let rank = c .middle-rank .ensures in (omega arith, search needs)
+
+set-to-zero-requires : tie.Need-set-to-zero-requires
+set-to-zero-requires c κs = search needs
+
+value-of-key-requires : tie.Need-value-of-key-requires
+value-of-key-requires c κs = search needs
+
+same-length : tie.Need-same-length
+same-length c = search needs
+
+returns : tie.Need-returns
+returns c =
+    let zeroed = c .before .before .before in
+    let ranked = zeroed .before .before in
+    let start = ranked .before .before .before .before in
+    (c .value-of-key .ensures ∙ median-by-key (start .args .work .now) _ _ _ (start .pre .0) (start .pre .1) (ranked .before .before .before .slice-known .given) (ranked .before .middle-rank .ensures) (ranked .find-key .ensures), zeroed .set-to-zero .ensures)
+
+pub select-spec : {M : Type 1} → statement M
+select-spec =
+    tie.close
+    (tie.spec
+    middle-rank-requires
+    find-key-requires
+    set-to-zero-requires
+    value-of-key-requires
+    same-length
+    returns)

@@ -1,0 +1,2 @@
+pub mod Median
+pub mod Search
