@@ -1,15 +1,15 @@
 -- An order key is below 2 ^ 32 (2 ^ 64 in binary64), and the value with the order key of x is x.
 use mathlib.Core.Path.{_≡_, refl, sym, ap, _∙_}
 use mathlib.Core.Bool.{not}
-use Prim.Native.Nat.{ℕ, _+_, _-_, _*_, _%_, _≤_, _<_}
+use Prim.Native.Nat.{ℕ, _+_, _-_, _*_, _≤_, _<_}
 use native.Mathlib.Omega.{arith}
 use lib.Dec.{T, ltb, ltb→lt, nltb→le, lit<}
-use lib.Ieee.{Float, nan, Format, binary32, binary64, top, fits, isNan, ofBits, toBits, div}
-use lib.Ieee.Bits.{is-true, ofBits-toBits, toBits-lt, nanBits-is, nanBits-above}
+use lib.Ieee.{Float, nan, Format, binary32, binary64, top, fits, isNan, ofBits, toBits}
+use lib.Ieee.Bits.{is-true, ofBits-toBits, toBits-lt}
 use borrow.Author.Tests.{lt-ltb, le-ltb}
 use Rattle.laws.specs.Order.{orderKey}
 use Rattle.laws.proofs.Cases.{by-test}
-use Rattle.laws.proofs.Signs.{nan-is, made-nan}
+use Rattle.laws.proofs.Signs.{nan-is}
 use Rattle.medians.specs.Search.{patternOfKey, valueOfKey}
 
 top-above-zero : (f : Format) → 0 < top f
@@ -43,11 +43,3 @@ value-back f x h =
     (λ _. by-test (λ (k : ℕ). ofBits f (patternOfKey f k) ≡ x) (ltb (toBits f x) (top f))
     (λ _. ap (ofBits f) (plus-back f (toBits f x)) ∙ ofBits-toBits f x h)
     (λ (l : T (not (ltb (toBits f x) (top f)))). ap (ofBits f) (minus-back f (toBits f x) (nltb→le (toBits f x) (top f) l) (toBits-lt f x h)) ∙ ofBits-toBits f x h))
-
--- a pattern above the infinity's is the NaN's, which `0.0 / 0.0` is
-pub nan-by-key : (key b : ℕ) → b ≡ patternOfKey binary32 key → 0x7f80_0000 < b % 0x8000_0000 → div binary32 (ofBits binary32 0) (ofBits binary32 0) ≡ valueOfKey binary32 key
-unfolding valueOfKey
-nan-by-key key b e h =
-    made-nan binary32
-    ∙ sym (nan-is (ofBits binary32 b) (sym (nanBits-is binary32 b) ∙ nanBits-above binary32 b ∙ lt-ltb 0x7f80_0000 (b % 0x8000_0000) h))
-    ∙ ap (ofBits binary32) e

@@ -7,6 +7,7 @@ ghost use Rattle.laws.specs.Front.{front};
 ghost use Rattle.laws.specs.Values.{plusZero};
 ghost use Rattle.medians.specs.Median.{medianOf};
 ghost use Rattle.medians.specs.Search.{countBelow, keyAtRank, patternOfKey, valueOfKey};
+use numbers::single::from_pattern;
 use numbers::single::order_key;
 
 // How many of the first `count` values have an order key below the bound.
@@ -57,11 +58,7 @@ fn pattern_of_key(key: u32) -> u32
 fn value_of_key(key: u32) -> f32
     ensures { λ r. ⌜ r ≡ valueOfKey binary32 key ⌝ }
 {
-    let pattern = pattern_of_key(key);
-    if pattern % 0x8000_0000 > 0x7f80_0000 {
-        return 0.0 / 0.0;
-    }
-    f32::from_bits(pattern)
+    from_pattern(pattern_of_key(key))
 }
 
 // Sets the first `count` values to +0.

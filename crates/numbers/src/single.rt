@@ -1,6 +1,6 @@
 // f32: kinds and signs, the total order, the larger and the smaller of two.
 ghost use mathlib.Core.Path.{_≡_};
-ghost use lib.Ieee.{binary32, isNan};
+ghost use lib.Ieee.{binary32, isNan, ofBits};
 ghost use lib.Ieee.Scale.{finite};
 ghost use Rattle.laws.specs.Values.{negative, magnitudeOf};
 ghost use Rattle.laws.specs.Order.{totalOrder, orderKey};
@@ -35,6 +35,16 @@ pub fn magnitude(x: f32) -> f32
     ensures { λ r. ⌜ r ≡ magnitudeOf x ⌝ }
 {
     if is_negative(x) { -x } else { x }
+}
+
+// The value of a pattern.
+pub fn from_pattern(pattern: u32) -> f32
+    ensures { λ r. ⌜ r ≡ ofBits binary32 pattern ⌝ }
+{
+    if pattern % 0x8000_0000 > 0x7f80_0000 {
+        return 0.0 / 0.0;
+    }
+    f32::from_bits(pattern)
 }
 
 // A number whose order is the total order's.

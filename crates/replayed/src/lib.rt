@@ -4,9 +4,9 @@
 ghost use mathlib.Core.Path.{_≡_};
 ghost use Prim.Native.Nat.{_+_, _*_, _≤_};
 ghost use lib.ListN.{length};
-ghost use lib.Ieee.{binary32, ofBits};
 ghost use Rattle.replayed.specs.Records.{wordAt, valueAt, sameValue, chromaAt, sameScores, sameKey, agrees, differing};
 use keys::numbers::key_number;
+use numbers::single::from_pattern;
 use numbers::single::order_key;
 use scores::classify::Classified;
 use scores::classify::classify_key;
@@ -27,22 +27,12 @@ fn word_at(bytes: &[u8], at: usize) -> u32
     word_of(bytes[at], bytes[at + 1], bytes[at + 2], bytes[at + 3])
 }
 
-// The value of a pattern.
-fn value_of(pattern: u32) -> f32
-    ensures { λ r. ⌜ r ≡ ofBits binary32 pattern ⌝ }
-{
-    if pattern % 0x8000_0000 > 0x7f80_0000 {
-        return 0.0 / 0.0;
-    }
-    f32::from_bits(pattern)
-}
-
 // The value of the pattern that starts at `at`.
 fn value_at(bytes: &[u8], at: usize) -> f32
     requires { ⌜ at + 4 ≤ length (now bytes) ⌝ }
     ensures { λ r. ⌜ r ≡ valueAt (now (bytes .entry)) at ⌝ }
 {
-    value_of(word_at(bytes, at))
+    from_pattern(word_at(bytes, at))
 }
 
 // Whether two values are the same: bit for bit, and any NaN as any other.

@@ -2,9 +2,9 @@
 use borrow.Author.Needs.{needs}
 use lib.Ieee.{binary32}
 use Rattle.laws.proofs.Patterns.{pattern-number}
-use Rattle.replayed.proofs.Values.{nan-pattern}
-use Rattle.replayed.proofs.value_of.Statement.{statement}
-use Rattle.replayed.proofs.value_of.Tie as tie
+use Rattle.numbers.proofs.Tests.{nan-pattern}
+use Rattle.numbers.proofs.single.from_pattern.Statement.{statement}
+use Rattle.numbers.proofs.single.from_pattern.Tie as tie
 
 returns : tie.Need-returns
 returns c = nan-pattern (c .before .args .pattern) (c .if1 .taken)
@@ -15,5 +15,5 @@ float-from-bits-result c = pattern-number binary32 (c .before .args .pattern) (c
 returns-2 : tie.Need-returns-2
 returns-2 c = search needs
 
-pub value-of-spec : {M : Type 1} → statement M
-value-of-spec = tie.close (tie.spec returns float-from-bits-result returns-2)
+pub from-pattern-spec : {M : Type 1} → statement M
+from-pattern-spec = tie.close (tie.spec returns float-from-bits-result returns-2)

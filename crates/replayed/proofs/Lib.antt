@@ -1,2 +1,0 @@
--- What the functions' proofs share, on plain values.
-mod Values
