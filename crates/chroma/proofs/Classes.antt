@@ -18,9 +18,12 @@ remainder-below : (z : ℤ) → remainder z < 12
 remainder-below (pos n) = omega arith
 remainder-below (negsuc n) = omega arith
 
-pub class-below : (x : Float) → classOf x < 12
+class-is-below : (x : Float) → classOf x < 12
 unfolding classOf
-class-below x = remainder-below (toSigned 31 x)
+class-is-below x = remainder-below (toSigned 31 x)
+
+pub class-below : (x : Float) {class : ℕ} → class ≡ classOf x → class < 12
+class-below x e = rw e (class-is-below x)
 
 pub class-of-nan : (x : Float) {flag : Bool} → flag ≡ isNan x → flag ≡ true → 0 ≡ classOf x
 unfolding classOf toSigned

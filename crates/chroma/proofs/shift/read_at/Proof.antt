@@ -14,13 +14,13 @@ class-of-requires : tie.Need-class-of-requires
 class-of-requires c κs = search needs
 
 add-upper : tie.Need-add-upper
-add-upper c = omega (arith, c .class-of .ensures, class-below (c .before .floor .result))
+add-upper c = omega (arith, class-below _ (c .class-of .ensures))
 
 mul-blend : tie.Need-mul-blend
-mul-blend c = omega (arith, c .class-of .ensures, class-below (c .before .floor .result))
+mul-blend c = omega (arith, class-below _ (c .class-of .ensures))
 
 element-copy-out-blend : tie.Need-element-copy-out-blend
-element-copy-out-blend c = omega (arith, c .class-of .ensures, class-below (c .before .floor .result))
+element-copy-out-blend c = omega (arith, class-below _ (c .class-of .ensures))
 
 mul-blend-2 : tie.Need-mul-blend-2
 mul-blend-2 c = search needs
