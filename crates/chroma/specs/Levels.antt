@@ -13,9 +13,11 @@ use Rattle.numbers.specs.Root.{rootOf}
 unfoldable pub whitened : Float → Float
 whitened x = cond (lt plusZero x) (rootOf x) x
 
+-- whiten_chroma: every value by itself
 unfoldable pub whitenedOf : List Float → List Float
 whitenedOf chroma = list (λ (i : ℕ). whitened (getD chroma i nan)) 12
 
+-- every value over the total
 unfoldable pub dividedBy : List Float → Float → List Float
 dividedBy chroma total = list (λ (i : ℕ). div binary32 (getD chroma i nan) total) 12
 

@@ -39,13 +39,16 @@ retuned direction chroma offset = cond (lt (ofBits binary32 0x3c23_d70a) (magnit
 abbrev pub shiftedOf : List Float → Float → List Float
 shiftedOf = shifted (sub binary32)
 
+-- retuned in the Rust's direction
 abbrev pub retunedOf : List Float → Float → List Float
 retunedOf = retuned (sub binary32)
 
 -- ---- what holds in every direction
 module _ (direction : Float → Float → Float) (chroma : List Float) (offset : Float) where
+  -- a bin of the shifted chroma is what stands at its place
   abbrev pub EachBinReads : Type 0
   EachBinReads = (bin : ℕ) → bin < 12 → getD (shifted direction chroma offset) bin nan ≡ readAt chroma (direction (ofInt binary32 (pos bin)) offset)
 
+  -- a chroma of twelve stays one of twelve
   abbrev pub TwelveStay : Type 0
   TwelveStay = length chroma ≡ 12 → length (retuned direction chroma offset) ≡ 12

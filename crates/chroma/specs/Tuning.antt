@@ -30,9 +30,11 @@ peakAdded s before height after =
 abbrev pub binAdded : List Float → ℕ → Peaks → Peaks
 binAdded values bin s = peakAdded s (getD values ((bin + 11) % 12) nan) (getD values bin nan) (getD values ((bin + 1) % 12) nan)
 
+-- the twelve bins of a frame more, from C up
 unfoldable pub frameAdded : List Float → Peaks → Peaks
 frameAdded values s = turns (binAdded values) 12 0 s
 
+-- frame j more
 abbrev pub framesAdded : List (List Float) → ℕ → Peaks → Peaks
 framesAdded frames j s = frameAdded (getD frames j []) s
 
@@ -40,6 +42,7 @@ framesAdded frames j s = frameAdded (getD frames j []) s
 unfoldable pub meanOffset : Peaks → Float
 meanOffset s = cond (lt epsilon (s .heights)) (clampedTo (ofBits binary32 0xbf00_0000) (ofBits binary32 0x3f00_0000) (div binary32 (s .offsets) (s .heights))) plusZero
 
+-- before the first frame
 abbrev pub noPeaks : Peaks
 noPeaks = record { heights = plusZero; offsets = plusZero }
 

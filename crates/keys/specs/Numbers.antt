@@ -36,6 +36,7 @@ abbrev pub numbered : Mode → ℕ → ℕ
 numbered Major n = n
 numbered Minor n = 12 + n
 
+-- a key's number, from 0 to 23
 abbrev pub keyNumber : Key → ℕ
 keyNumber k = numbered (k .mode) (tonicNumber (k .tonic))
 
@@ -54,6 +55,7 @@ relatives Minor n Major m = eqb ((m + 9) % 12) n
 relatives Major m Major n = false
 relatives Minor m Minor n = false
 
+-- by mode and tonic of both keys
 abbrev pub areRelativeKeys : Key → Key → Bool
 areRelativeKeys a b = relatives (a .mode) (tonicNumber (a .tonic)) (b .mode) (tonicNumber (b .tonic))
 

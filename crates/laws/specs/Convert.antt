@@ -25,6 +25,7 @@ Conversion = (f : Format) → Converts f
 abbrev pub parts : Format → ℕ → ℕ → Float
 parts f t n = round f false n (2 ^ t)
 
+-- x / 2
 abbrev pub half : Format → Float → Float
 half f x = div f x two
 

@@ -19,6 +19,7 @@ pub record NearestRoot (x r : Float) : Type 0 where
   pub from-below : (y : Float) → T (fits binary32 y) → T (nonneg y) → T (lt y r) → twiceMiddle y r * twiceMiddle y r * den x < 4 * num x * (den y * den r * (den y * den r))
   pub from-above : (y : Float) → T (fits binary32 y) → T (nonneg y) → T (lt r y) → 4 * num x * (den y * den r * (den y * den r)) < twiceMiddle y r * twiceMiddle y r * den x
 
+-- r is the nearest, and no other value is
 pub record OnlyNearest (x r : Float) : Type 0 where
   pub nearest : NearestRoot x r
   pub only : (s : Float) → NearestRoot x s → s ≡ r

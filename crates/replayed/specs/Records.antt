@@ -12,9 +12,11 @@ use Rattle.keys.specs.Numbers.{keyNumber}
 use Rattle.scores.specs.declared.classify.Classified.{Classified}
 use Rattle.scores.specs.Classify.{confidenceOf, classifiedOf}
 
+-- the number of 32 bits that starts at a byte
 unfoldable pub wordAt : List ℕ → ℕ → ℕ
 wordAt bytes at = getD bytes at 0 + getD bytes (at + 1) 0 * 0x100 + getD bytes (at + 2) 0 * 0x1_0000 + getD bytes (at + 3) 0 * 0x100_0000
 
+-- the value of the pattern that starts at a byte
 unfoldable pub valueAt : List ℕ → ℕ → Float
 valueAt bytes at = ofBits binary32 (wordAt bytes at)
 
@@ -30,6 +32,7 @@ chromaAt bytes start = list (λ (i : ℕ). valueAt bytes (start + 4 * i)) 12
 abbrev pub scoreTurn : List ℕ → ℕ → List Float → ℕ → Bool → Bool
 scoreTurn bytes start scores k same = same && sameValue (getD scores k nan) (valueAt bytes (start + 48 + 4 * k))
 
+-- whether all 24 are the scores
 unfoldable pub sameScores : List ℕ → ℕ → List Float → Bool
 sameScores bytes start scores = turns (scoreTurn bytes start scores) 24 0 true
 
@@ -41,12 +44,15 @@ sameKey bytes start c =
     && sameValue (c .second) (valueAt bytes (start + 152))
     && sameValue (confidenceOf (c .best) (c .second)) (valueAt bytes (start + 156))
 
+-- whether the record's answers are those of a classified chroma
 abbrev pub judges : List ℕ → ℕ → Classified → Bool
 judges bytes start c = sameScores bytes start (c .scores) && sameKey bytes start c
 
+-- whether the record's answers are those of its chroma
 unfoldable pub agrees : List ℕ → ℕ → Bool
 agrees bytes start = judges bytes start (classifiedOf (chromaAt bytes start))
 
+-- one record more
 abbrev pub recordTurn : List ℕ → ℕ → ℕ → ℕ
 recordTurn bytes n differ = cond (not (agrees bytes (n * 160))) (differ + 1) differ
 

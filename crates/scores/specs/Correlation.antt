@@ -26,12 +26,15 @@ rotated root i = (i + 12 - root) % 12
 abbrev pub productTurn : List Float → List Float → ℕ → Float → Float → ℕ → Float → Float
 productTurn chroma profile root mean weight i sum = add binary32 sum (mul binary32 (distance chroma mean i) (distance profile weight (rotated root i)))
 
+-- one more of the chroma's squares
 abbrev pub chromaTurn : List Float → Float → ℕ → Float → Float
 chromaTurn chroma mean i sum = add binary32 sum (mul binary32 (distance chroma mean i) (distance chroma mean i))
 
+-- one more of the profile's squares
 abbrev pub profileTurn : List Float → ℕ → Float → ℕ → Float → Float
 profileTurn profile root weight i sum = add binary32 sum (mul binary32 (distance profile weight (rotated root i)) (distance profile weight (rotated root i)))
 
+-- the three sums, each from +0
 unfoldable pub sumsOf : List Float → List Float → ℕ → Float → Float → Sums
 sumsOf chroma profile root mean weight = record {
   products = turns (productTurn chroma profile root mean weight) 12 0 plusZero;
@@ -51,5 +54,6 @@ added s chroma profile = record {
 unfoldable pub quotientOf : Sums → Float
 quotientOf s = div binary32 (s .products) (maximumNumber (rootOf (mul binary32 (s .chroma) (s .profile))) epsilon)
 
+-- the correlation of a chroma with a profile at a root
 unfoldable pub correlationOf : List Float → List Float → ℕ → Float
 correlationOf chroma profile root = quotientOf (sumsOf chroma profile root (meanOf chroma) (meanOf profile))

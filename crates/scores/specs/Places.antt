@@ -9,6 +9,7 @@ use Rattle.keys.specs.Numbers.{keyAt}
 use Rattle.scores.specs.declared.places.Place.{Place}
 use Rattle.scores.specs.declared.places.Places.{Places}
 
+-- two places
 abbrev pub ranked : Place → Place → Places
 ranked first second = record { first = first; second = second }
 
@@ -23,6 +24,7 @@ placed p candidate =
 abbrev pub numberAt : ℕ → ℕ
 numberAt turn = 12 * (turn % 2) + turn / 2
 
+-- that key with its score
 unfoldable pub candidateAt : List Float → ℕ → Place
 candidateAt scores turn = record { key = keyAt (numberAt turn); score = getD scores (numberAt turn) nan }
 
@@ -30,8 +32,10 @@ candidateAt scores turn = record { key = keyAt (numberAt turn); score = getD sco
 abbrev pub nobody : Place
 nobody = record { key = keyAt 0; score = inf true }
 
+-- one turn
 abbrev pub placeTurn : List Float → ℕ → Places → Places
 placeTurn scores turn p = placed p (candidateAt scores turn)
 
+-- both places after all 24 keys
 unfoldable pub placesOf : List Float → Places
 placesOf scores = turns (placeTurn scores) 24 0 (ranked nobody nobody)

@@ -25,8 +25,10 @@ patterns =
     ∷ (0x3dc7_10cb ∷ 0x3da6_e979 ∷ 0x3da6_e979 ∷ 0x3da8_f5c3 ∷ 0x3d98_9375 ∷ 0x3da3_6e2f ∷ 0x3d9a_6b51 ∷ 0x3dbb_cd36 ∷ 0x3da5_7a78 ∷ 0x3d9d_7dbf ∷ 0x3da9_fbe7 ∷ 0x3da7_bb30 ∷ [])
     ∷ []
 
+-- the table as values
 unfoldable pub profiles : List (List Float)
 profiles = map (map (ofBits binary32)) patterns
 
+-- a row of the table
 unfoldable pub profileAt : ℕ → List Float
 profileAt row = getD profiles row []

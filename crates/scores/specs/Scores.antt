@@ -20,5 +20,6 @@ scoreOf chroma mode root = div binary32 (turns (scoreTurn chroma mode root) 4 0 
 abbrev pub scoreAt : List Float → ℕ → Float
 scoreAt chroma k = scoreOf chroma (k / 12) (k % 12)
 
+-- the scores of the 24 keys, by key number
 unfoldable pub scoresOf : List Float → List Float
 scoresOf chroma = list (scoreAt chroma) 24

@@ -26,6 +26,7 @@ onlyB = replicate 11 plusZero ++ (one ∷ [])
 abbrev pub halves : List ℕ
 halves = 0x3f00_0000 ∷ replicate 10 0 ++ (0x3f00_0000 ∷ [])
 
+-- bin 11 alone, offset 0.5: bins 0 and 11 are 0.5
 unfoldable pub rowL : Row
 rowL = record { letter = 108; holds = every (λ (k : ℕ). eqb (toBits binary32 (getD (shiftedOf onlyB (ofBits binary32 0x3f00_0000)) k nan)) (getD halves k 1)) 12 }
 
@@ -50,6 +51,7 @@ rowN = record { letter = 110; holds = tells isPlusZero (classifiedOf (replicate 
 unfoldable pub rows : List Row
 rows = rowL ∷ rowM ∷ rowN ∷ []
 
+-- whether every row of a table holds
 abbrev pub allHold : List Row → Bool
 allHold [] = true
 allHold (r ∷ rs) = r .holds && allHold rs

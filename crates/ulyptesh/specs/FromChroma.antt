@@ -21,6 +21,7 @@ pub record ScoresOutcome : Type 0 where
   pub answer : ScoresResult
   pub places : List Float
 
+-- both together
 abbrev pub scoresOutcome : ScoresResult → List Float → ScoresOutcome
 scoresOutcome answer places = record { answer = answer; places = places }
 
@@ -32,6 +33,7 @@ scoresCall chroma places =
     ∷ [])
     (scoresOutcome (record { refusal = 0 }) (front (scoresOf chroma) places))
 
+-- no other outcome meets the promise
 abbrev pub ScoresUnique : Type 0
 ScoresUnique = (chroma places : List Float) (a b : ScoresOutcome) → a ≡ scoresCall chroma places → b ≡ scoresCall chroma places → a ≡ b
 
@@ -44,8 +46,10 @@ judged c = record { refusal = 0; key = keyNumber (c .key); best = c .best; secon
 abbrev pub noChroma : KeyResult
 noChroma = record { refusal = 18; key = 24; best = plusZero; second = plusZero; confidence = plusZero }
 
+-- the refusal, or what is told of the chroma
 abbrev pub keyCall : List Float → KeyResult
 keyCall chroma = firstOf ((not (eqb (length chroma) 12) gives noChroma) ∷ []) (judged (classifiedOf chroma))
 
+-- no other answer meets the promise
 abbrev pub KeyUnique : Type 0
 KeyUnique = (chroma : List Float) (a b : KeyResult) → a ≡ keyCall chroma → b ≡ keyCall chroma → a ≡ b

@@ -12,13 +12,14 @@ use Rattle.ulyptesh.specs.declared.names.KeyName.{KeyName}
 
 -- the call's answer: 01's number, or 0, and how many bytes were written
 abbrev pub answered : ℕ → ℕ → KeyName
-answered refusal length = record { refusal = refusal; length = length }
+answered refusal count = record { refusal = refusal; length = count }
 
 -- what the call answers, and what it leaves in the lent bytes
 pub record Outcome : Type 0 where
   pub answer : KeyName
   pub bytes : List ℕ
 
+-- both together
 abbrev pub outcome : KeyName → List ℕ → Outcome
 outcome answer bytes = record { answer = answer; bytes = bytes }
 
