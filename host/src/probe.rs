@@ -32,6 +32,9 @@ unsafe extern "C" {
     pub safe fn probe_same_key(a: u32, b: u32) -> bool;
     pub safe fn probe_are_relative_keys(a: u32, b: u32) -> bool;
 
+    pub safe fn probe_thousandths(x: f32) -> u64;
+    pub safe fn probe_milliseconds(x: f64) -> u64;
+
     safe fn probe_whiten(chroma: &Chroma) -> Twelve;
     safe fn probe_normalize(chroma: &Chroma) -> Twelve;
     safe fn probe_shift(chroma: &Chroma, offset: f32) -> Twelve;

@@ -1,1 +1,2 @@
 pub mod Medians
+pub mod Packed

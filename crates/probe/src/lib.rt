@@ -4,3 +4,4 @@ pub mod keys_by_number;
 pub mod medians_of_work;
 pub mod numbers_f32;
 pub mod numbers_f64;
+pub mod packed_numbers;

@@ -33,7 +33,7 @@ macro_rules! compared_exactly {
 
 pub(super) use compared_exactly;
 
-compared_exactly!(bool, u32, usize);
+compared_exactly!(bool, u32, u64, usize);
 
 macro_rules! compared_as_floats {
     ($($kind:ty),*) => {$(

@@ -12,6 +12,7 @@ mod keys;
 mod medians;
 mod numbers;
 mod orders;
+mod packed;
 mod random;
 mod scores;
 
@@ -54,6 +55,7 @@ fn compare(given: &Options) -> ExitCode {
     scores::compare(&mut groups);
     chroma_leaves::compare(&mut groups);
     medians::compare(&mut groups);
+    packed::compare(&mut groups);
     groups.close()
 }
 
