@@ -15,7 +15,7 @@ use lib.Ieee.Fits.{down-pos}
 use lib.Ieee.Nearest.{div-same}
 use Rattle.laws.proofs.Table.{told}
 use Rattle.laws.proofs.Signs.{nan-is}
-use Rattle.card.specs.Packing.{when, wholeTimes}
+use Rattle.card.specs.Packing.{numberIf, wholeTimes}
 use Rattle.card.specs.declared.packed.Packed.the-variants.{Number, Refused}
 
 -- the fields of a float's pattern
@@ -64,12 +64,12 @@ module _ (f : Format) (x : Float) (fit : T (fits f x)) where
       either false = refl
 
 -- a float of the size a / c holds as many whole parts as the fraction
-pub times-of-value : (x : Float) (s : Bool) (a c n : ℕ) → 0 < c → HasValue x s a c → wholeTimes x n ≡ when (ltb (a * n / c) (2 ^ 32)) (a * n / c)
+pub times-of-value : (x : Float) (s : Bool) (a c n : ℕ) → 0 < c → HasValue x s a c → wholeTimes x n ≡ numberIf (ltb (a * n / c) (2 ^ 32)) (a * n / c)
 times-of-value nan s a c n above v = absurd v
 times-of-value (inf t) s a c n above v = absurd v
 times-of-value (fin t m e) s a c n above v =
     let cross : m * up e * n * c ≡ a * n * down e = mul-right-comm (m * up e) n c ∙ ap (λ (z : ℕ). z * n) (v .1) ∙ mul-right-comm a (down e) n in
-    ap (λ (q : ℕ). when (ltb q (2 ^ 32)) q) (div-same (m * up e * n) (down e) (a * n) c (down-pos e) above cross)
+    ap (λ (q : ℕ). numberIf (ltb q (2 ^ 32)) q) (div-same (m * up e * n) (down e) (a * n) c (down-pos e) above cross)
 
 -- a common power of two cancels
 pub cancel : (q n k p : ℕ) → q * 2 ^ k * n / 2 ^ (p + k) ≡ q * n / 2 ^ p
@@ -90,20 +90,20 @@ module _ (x : Float) (fit : T (fits binary64 x)) (n : ℕ) where
   tiny few e =
       let below : digits * 1 * n < 2 ^ 1074 =
       lt-of-le-of-lt (mul-le-mul {n₂ = 2 ^ 52} {m₂ = 2000} (le-trans (le-of-eq (mul-one digits)) (le-of-lt (mod-lt (toBits binary64 x) (lit< tt)))) few) (lit< tt) in
-      sym (times-of-value x (signOf binary64 x) (digits * 1) (2 ^ 1074) n (lit< tt) (small-value binary64 x fit e) ∙ ap (λ (q : ℕ). when (ltb q (2 ^ 32)) q) (div-eq-of-lt below))
+      sym (times-of-value x (signOf binary64 x) (digits * 1) (2 ^ 1074) n (lit< tt) (small-value binary64 x fit e) ∙ ap (λ (q : ℕ). numberIf (ltb q (2 ^ 32)) q) (div-eq-of-lt below))
 
   -- what a normal double holds
-  normal : (k : ℕ) → field ≡ suc k → (suc k ≡ 2047 → ⊥) → wholeTimes x n ≡ when (ltb ((2 ^ 52 + digits) * 2 ^ k * n / 2 ^ 1074) (2 ^ 32)) ((2 ^ 52 + digits) * 2 ^ k * n / 2 ^ 1074)
+  normal : (k : ℕ) → field ≡ suc k → (suc k ≡ 2047 → ⊥) → wholeTimes x n ≡ numberIf (ltb ((2 ^ 52 + digits) * 2 ^ k * n / 2 ^ 1074) (2 ^ 32)) ((2 ^ 52 + digits) * 2 ^ k * n / 2 ^ 1074)
   normal k e finite = times-of-value x (signOf binary64 x) ((2 ^ 52 + digits) * 2 ^ k) (2 ^ 1074) n (lit< tt) (normal-value binary64 x fit k e finite)
 
   pub usual : 0 < field → field < 1055 →
-      let q = (2 ^ 52 + digits) * n / 2 ^ (1075 - field) in wholeTimes x n ≡ when (ltb q (2 ^ 32)) q
+      let q = (2 ^ 52 + digits) * n / 2 ^ (1075 - field) in wholeTimes x n ≡ numberIf (ltb q (2 ^ 32)) q
   usual some few =
       let k = field - 1 in
       let e : field ≡ suc k = omega arith in
       let apart : 1074 ≡ 1075 - field + k = omega arith in
       normal k e (λ all. omega arith)
-      ∙ ap (λ (q : ℕ). when (ltb q (2 ^ 32)) q)
+      ∙ ap (λ (q : ℕ). numberIf (ltb q (2 ^ 32)) q)
       (ap (λ (z : ℕ). (2 ^ 52 + digits) * 2 ^ k * n / 2 ^ z) apart ∙ cancel (2 ^ 52 + digits) n k (1075 - field))
 
   pub big : 1 ≤ n → 1055 ≤ field → Refused ≡ wholeTimes x n
@@ -116,7 +116,7 @@ module _ (x : Float) (fit : T (fits binary64 x)) (n : ℕ) where
         | inr less ↦
             let large : 2 ^ 32 * 2 ^ 1074 ≤ (2 ^ 52 + digits) * 2 ^ k * n =
             mul-le-mul {n₁ = 2 ^ 52 * 2 ^ 1054} {m₁ = 1} (mul-le-mul {n₁ = 2 ^ 52} {m₁ = 2 ^ 1054} (omega arith) (pow-mono {i = 1054} (omega arith))) some in
-            sym (normal k e (λ all. omega arith) ∙ ap (λ (b : Bool). when b ((2 ^ 52 + digits) * 2 ^ k * n / 2 ^ 1074)) (le-ltb _ _ (le-div-iff-mul-le (lit< tt) .1 large)))
+            sym (normal k e (λ all. omega arith) ∙ ap (λ (b : Bool). numberIf b ((2 ^ 52 + digits) * 2 ^ k * n / 2 ^ 1074)) (le-ltb _ _ (le-div-iff-mul-le (lit< tt) .1 large)))
       ]
 
 pub times-of-nan : (x : Float) (n : ℕ) {flag : Bool} → flag ≡ isNan x → flag ≡ true → Refused ≡ wholeTimes x n

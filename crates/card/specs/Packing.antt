@@ -7,19 +7,19 @@ use Rattle.card.specs.declared.packed.Packed.{Packed}
 use Rattle.card.specs.declared.packed.Packed.the-variants.{Number, Refused}
 
 -- the number where a test holds
-abbrev pub when : Bool → ℕ → Packed
-when true n = Number n
-when false n = Refused
+abbrev pub numberIf : Bool → ℕ → Packed
+numberIf true n = Number n
+numberIf false n = Refused
 
 -- a number up to a limit
-abbrev pub kept : ℕ → ℕ → Packed
-kept limit n = when (leb n limit) n
+abbrev pub limited : ℕ → ℕ → Packed
+limited limit n = numberIf (leb n limit) n
 
 -- how many whole 1 / n there are in a float's size; below 2^32
 abbrev pub wholeTimes : Float → ℕ → Packed
 wholeTimes nan n = Refused
 wholeTimes (inf s) n = Refused
-wholeTimes (fin s m e) n = when (ltb (m * up e * n / down e) (2 ^ 32)) (m * up e * n / down e)
+wholeTimes (fin s m e) n = numberIf (ltb (m * up e * n / down e) (2 ^ 32)) (m * up e * n / down e)
 
 -- a float below 0
 abbrev pub belowZero : Bool → ℕ → Bool
@@ -29,7 +29,7 @@ belowZero s m = s && ltb 0 m
 abbrev pub thousandthsOf : Float → Packed
 thousandthsOf nan = Refused
 thousandthsOf (inf s) = Refused
-thousandthsOf (fin s m e) = cond (belowZero s m) Refused (kept 1000 (m * up e * 1000 / down e))
+thousandthsOf (fin s m e) = cond (belowZero s m) Refused (limited 1000 (m * up e * 1000 / down e))
 
 -- half of n / d, to the nearest whole number, halves up
 abbrev pub halvesUp : ℕ → ℕ → ℕ
@@ -40,21 +40,21 @@ abbrev pub millisecondsOf : Float → ℕ → Packed
 millisecondsOf nan limit = Refused
 millisecondsOf (inf s) limit = Refused
 millisecondsOf (fin s m e) limit =
-    cond (belowZero s m) (when (leb (m * up e * 2000) (down e)) 0) (kept limit (halvesUp (m * up e * 2000) (down e)))
+    cond (belowZero s m) (numberIf (leb (m * up e * 2000) (down e)) 0) (limited limit (halvesUp (m * up e * 2000) (down e)))
 
 -- ---- the same from whole parts, for the functions that take them
 
 -- whole parts up to a limit
 abbrev pub upTo : ℕ → Packed → Packed
-upTo limit (Number n) = kept limit n
+upTo limit (Number n) = limited limit n
 upTo limit Refused = Refused
 
 -- milliseconds from whole halves
 abbrev pub nearestOf : ℕ → Packed → Packed
-nearestOf limit (Number h) = kept limit ((h + 1) / 2)
+nearestOf limit (Number h) = limited limit ((h + 1) / 2)
 nearestOf limit Refused = Refused
 
 -- below 0: only what has no whole half goes up to 0
 abbrev pub raisedOf : Packed → Packed
-raisedOf (Number h) = when (eqb h 0) 0
+raisedOf (Number h) = numberIf (eqb h 0) 0
 raisedOf Refused = Refused

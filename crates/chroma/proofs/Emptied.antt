@@ -5,7 +5,7 @@ use native.Mathlib.Nat.{not-suc-le-zero}
 use Prim.Native.Nat.{ℕ, _+_, _<_, _≤_}
 use lib.ListN.{length, take, replicate, length-replicate}
 use lib.Ieee.{Float}
-use lib.Seq.{take-append-seam}
+use lib.Seq.{take-at}
 use Rattle.laws.specs.Front.{front, list}
 use Rattle.laws.specs.Values.{plusZero}
 use Rattle.laws.proofs.Front.{front-front, length-front, length-list}
@@ -34,4 +34,4 @@ emptied-again {count} {m₀} {m} {written} {left} f e h w l =
 
 -- what was written is read back
 pub written-back : (f : ℕ → Float) (count : ℕ) (m : List Float) → take count (front (list f count) m) ≡ list f count
-written-back f count m = ap (λ (n : ℕ). take n (front (list f count) m)) (sym (length-list f count)) ∙ take-append-seam _ _
+written-back f count m = take-at (list f count) _ count (length-list f count)

@@ -6,8 +6,8 @@ use Prim.Native.Nat.{ℕ, zero, suc, _+_, _/_, _≤_, _<_}
 use native.Mathlib.Numerals.{add-one}
 use native.Mathlib.Omega.{arith}
 use lib.Dec.{ltb}
-use lib.ListN.{length, getD, take, length-take}
-use lib.Seq.{take-suc}
+use lib.ListN.{length, getD, take}
+use lib.Seq.{take-suc, length-take-le}
 use lib.Ieee.{Float, nan, binary32}
 use Rattle.laws.specs.Order.{orderKey}
 use Rattle.laws.specs.Turns.{turns}
@@ -36,9 +36,6 @@ count-below-is ws (suc n) bound h =
     ∙ sym (below-append (orderKey binary32) bound (take n ws) (x ∷ []))
     ∙ ap (keysBelow (orderKey binary32) bound) (sym (take-suc ws n nan h))
 
-taken-long : (ws : List Float) (n : ℕ) → n ≤ length ws → length (take n ws) ≡ n
-taken-long ws n h = simp length-take (omega arith)
-
 each-take : (ws : List Float) (n : ℕ) → ((i : ℕ) → InSingle (getD ws i nan)) → Each InSingle (take n ws)
 each-take ws zero h = each-none
 each-take [] (suc n) h = each-none
@@ -50,7 +47,7 @@ module _ (ws : List Float) (n rank : ℕ) (inside : rank < n) (room : n ≤ leng
   search-starts =
       let none : keysBelow (orderKey binary32) 0 (take n ws) ≡ 0 = below-zero (orderKey binary32) (take n ws) in
       let all = below-all (orderKey binary32) 0x1_0000_0000 (key-lt binary32) (take n ws) in
-      record { bits = 32; power = refl; least = omega (arith, count-below-is ws n 0 room, none); most = omega (arith, count-below-is ws n 0x1_0000_0000 room, all, taken-long ws n room) }
+      record { bits = 32; power = refl; least = omega (arith, count-below-is ws n 0 room, none); most = omega (arith, count-below-is ws n 0x1_0000_0000 room, all, length-take-le n ws room) }
 
   same-count : (p : ℕ) → countBelow ws n p ≡ keysBelow (orderKey binary32) p (sortedOf (take n ws))
   same-count p = count-below-is ws n p room ∙ sym (below-sorted (orderKey binary32) p (take n ws))
@@ -59,7 +56,7 @@ module _ (ws : List Float) (n rank : ℕ) (inside : rank < n) (room : n ≤ leng
   unfolding keyAtRank
   search-ends fit key width now last =
       let xs = take n ws in
-      key-at (orderKey binary32) (ascending-sorted (each-take ws n fit)) rank nan (omega (arith, length-sorted xs, taken-long ws n room)) key
+      key-at (orderKey binary32) (ascending-sorted (each-take ws n fit)) rank nan (omega (arith, length-sorted xs, length-take-le n ws room)) key
       (subst (λ (m : ℕ). m ≤ rank) (same-count key) (now .least))
       (subst (λ (m : ℕ). rank < m) (same-count (key + 1)) (one-left (countBelow ws n) rank key width now last))
 
@@ -68,7 +65,7 @@ pub median-by-key : (ws : List Float) (n rank key : ℕ) → 0 < n → n ≤ len
 unfolding medianOf keyAtRank
 median-by-key ws n rank key some room fit middle e =
     let xs = take n ws in
-    let long = taken-long ws n room in
+    let long = length-take-le n ws room in
     let inside : rank < length (sortedOf xs) = omega (arith, length-sorted xs) in
     let place : rank ≡ length xs / 2 = omega arith in
     ap (valueOfKey binary32) e

@@ -3,7 +3,7 @@ use mathlib.Core.Path.{sym, ap, _∙_}
 use mathlib.Core.Bool.{Bool}
 use borrow.Author.Tests.{ne-eqb}
 use borrow.Author.Needs.{needs}
-use Rattle.card.specs.Packing.{when, raisedOf}
+use Rattle.card.specs.Packing.{numberIf, raisedOf}
 use Rattle.card.proofs.packed.raised_of.Statement.{statement}
 use Rattle.card.proofs.packed.raised_of.Tie as tie
 
@@ -22,7 +22,7 @@ returns-2 c = search needs
 returns-3 : tie.Need-returns-3
 returns-3 c =
     let known = c .before .before .halves .given in
-    sym (ap raisedOf (known .1) ∙ ap (λ (b : Bool). when b 0) (ne-eqb (known .0 .0) 0 (c .if1 .left)))
+    sym (ap raisedOf (known .1) ∙ ap (λ (b : Bool). numberIf b 0) (ne-eqb (known .0 .0) 0 (c .if1 .left)))
 
 pub raised-of-spec : {M : Type 1} → statement M
 raised-of-spec = tie.close (tie.spec enum-known-halves enum-told returns returns-2 returns-3)

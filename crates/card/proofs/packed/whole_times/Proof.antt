@@ -7,7 +7,7 @@ use native.Mathlib.Omega.{arith}
 use lib.Dec.{T, ltb, lit<}
 use lib.Ieee.{binary64}
 use borrow.Author.Tests.{lt-ltb, le-ltb}
-use Rattle.card.specs.Packing.{when, wholeTimes}
+use Rattle.card.specs.Packing.{numberIf, wholeTimes}
 use Rattle.laws.proofs.Table.{told}
 use Rattle.laws.proofs.Signs.{not-nan}
 use borrow.Author.Needs.{needs}
@@ -29,14 +29,14 @@ module _ (c : tie.After-low-bits2) where
 found : (c : tie.After-high-bits) →
     let s = start (c .before .before .before) in
     let r = c .high-bits .result in
-    wholeTimes (s .args .x) (s .args .n) ≡ when (ltb r (2 ^ 32)) r
+    wholeTimes (s .args .x) (s .args .n) ≡ numberIf (ltb r (2 ^ 32)) r
 found c =
     let read = c .before .before .before in
     let s = start read in
     let d = read .low-bits2 .result in
     let field = fieldOf binary64 (s .args .x) in
     usual (s .args .x) (subst T (sym (s .good .0 .1)) tt) (s .args .n) (omega (arith, field-is read, c .before .if3 .left)) (omega (arith, field-is read, c .before .before .if2 .left))
-    ∙ ap (λ (q : ℕ). when (ltb q (2 ^ 32)) q)
+    ∙ ap (λ (q : ℕ). numberIf (ltb q (2 ^ 32)) q)
     (ap (λ (z : ℕ). (2 ^ 52 + z) * s .args .n / 2 ^ (1075 - field)) (digits-are read)
     ∙ ap (λ (z : ℕ). (2 ^ 52 + d) * s .args .n / 2 ^ (1075 - z)) (field-is read) ∙ sym (c .high-bits .ensures))
 
@@ -81,10 +81,10 @@ high-bits-requires : tie.Need-high-bits-requires
 high-bits-requires c κs = search needs
 
 returns-4 : tie.Need-returns-4
-returns-4 c = sym (found (c .before) ∙ ap (λ (b : Bool). when b (c .before .high-bits .result)) (lt-ltb _ _ (c .if4 .taken)))
+returns-4 c = sym (found (c .before) ∙ ap (λ (b : Bool). numberIf b (c .before .high-bits .result)) (lt-ltb _ _ (c .if4 .taken)))
 
 returns-5 : tie.Need-returns-5
-returns-5 c = sym (found (c .before) ∙ ap (λ (b : Bool). when b (c .before .high-bits .result)) (le-ltb _ _ (c .if4 .left)))
+returns-5 c = sym (found (c .before) ∙ ap (λ (b : Bool). numberIf b (c .before .high-bits .result)) (le-ltb _ _ (c .if4 .left)))
 
 pub whole-times-spec : {M : Type 1} → statement M
 whole-times-spec =
