@@ -1,25 +1,12 @@
 //! Key names, written by the library into lent bytes.
+use crate::written::{TOO_FEW_BYTES, UNWRITABLE, Written};
 use std::fmt;
 
 /// The longest name, "C# major", has this many bytes.
 pub const LONGEST_NAME: usize = 8;
 
-/// The refusal for a number above 23.
-pub const NO_SUCH_KEY: u32 = 11;
-
-/// The refusal for fewer bytes than the name has.
-pub const TOO_FEW_BYTES: u32 = 12;
-
-/// The library's answer: 0 and the name's length, or a refusal and 0.
-#[repr(C)]
-#[derive(Debug, Clone, Copy, PartialEq, Eq)]
-pub struct KeyName {
-    pub refusal: u32,
-    pub length: usize,
-}
-
 unsafe extern "C" {
-    fn ulyptesh_write_key_name(number: u32, bytes: *mut u8, count: usize) -> KeyName;
+    fn ulyptesh_write_key_name(number: u32, bytes: *mut u8, count: usize) -> Written;
 }
 
 /// Why a name was not written.
@@ -34,7 +21,7 @@ impl fmt::Display for KeyNameError {
     fn fmt(&self, out: &mut fmt::Formatter<'_>) -> fmt::Result {
         match self {
             Self::NoSuchKey { number } => {
-                write!(out, "{number} is no key number: keys are 0 to 23 (refusal {NO_SUCH_KEY})")
+                write!(out, "{number} is no key number: keys are 0 to 23 (refusal {UNWRITABLE})")
             }
             Self::TooFewBytes { number, lent } => {
                 write!(out, "the name of key {number} needs more than {lent} bytes (refusal {TOO_FEW_BYTES})")
@@ -49,7 +36,7 @@ impl fmt::Display for KeyNameError {
 impl std::error::Error for KeyNameError {}
 
 /// The library's own answer, as it is.
-pub fn answer(number: u32, bytes: &mut [u8]) -> KeyName {
+pub fn answer(number: u32, bytes: &mut [u8]) -> Written {
     // SAFETY: pointer and count are one exclusive slice, which outlives the call.
     unsafe { ulyptesh_write_key_name(number, bytes.as_mut_ptr(), bytes.len()) }
 }
@@ -58,10 +45,10 @@ pub fn answer(number: u32, bytes: &mut [u8]) -> KeyName {
 pub fn write_key_name(number: u32, bytes: &mut [u8]) -> Result<usize, KeyNameError> {
     let lent = bytes.len();
     match answer(number, bytes) {
-        KeyName { refusal: 0, length } => Ok(length),
-        KeyName { refusal: NO_SUCH_KEY, .. } => Err(KeyNameError::NoSuchKey { number }),
-        KeyName { refusal: TOO_FEW_BYTES, .. } => Err(KeyNameError::TooFewBytes { number, lent }),
-        KeyName { refusal, .. } => Err(KeyNameError::Unknown { number, refusal }),
+        Written { refusal: 0, length } => Ok(length),
+        Written { refusal: UNWRITABLE, .. } => Err(KeyNameError::NoSuchKey { number }),
+        Written { refusal: TOO_FEW_BYTES, .. } => Err(KeyNameError::TooFewBytes { number, lent }),
+        Written { refusal, .. } => Err(KeyNameError::Unknown { number, refusal }),
     }
 }
 

@@ -3,6 +3,9 @@
 //! A slice crosses the C interface as two arguments, pointer and count. Each wrapper lends a Rust slice for
 //! the length of one call; the library keeps no pointer.
 
+mod by_pointer;
+pub mod card;
 pub mod key_name;
 pub mod probe;
 pub mod scores;
+pub mod written;

@@ -1,13 +1,8 @@
 //! The leaves of the library, exported for the comparison and the speed table; no product calls them.
+use crate::by_pointer::answer_of;
 use crate::scores::PITCH_CLASSES;
 
 type Chroma = [f32; PITCH_CLASSES];
-
-/// A chroma as a call answers it.
-#[repr(C)]
-struct Twelve {
-    values: Chroma,
-}
 
 unsafe extern "C" {
     pub safe fn probe_square_root(x: f32) -> f32;
@@ -35,9 +30,9 @@ unsafe extern "C" {
     pub safe fn probe_thousandths(x: f32) -> u64;
     pub safe fn probe_milliseconds(x: f64) -> u64;
 
-    safe fn probe_whiten(chroma: &Chroma) -> Twelve;
-    safe fn probe_normalize(chroma: &Chroma) -> Twelve;
-    safe fn probe_shift(chroma: &Chroma, offset: f32) -> Twelve;
+    fn probe_whiten(answer: *mut Chroma, chroma: &Chroma) -> *mut Chroma;
+    fn probe_normalize(answer: *mut Chroma, chroma: &Chroma) -> *mut Chroma;
+    fn probe_shift(answer: *mut Chroma, chroma: &Chroma, offset: f32) -> *mut Chroma;
     fn probe_onset_weight(energies: *const f32, lent: usize, place: usize) -> f32;
     fn probe_tuning(frames: *const Chroma, lent: usize, count: usize) -> f32;
     fn probe_median(work: *mut f32, lent: usize, count: usize) -> f32;
@@ -45,12 +40,14 @@ unsafe extern "C" {
 
 /// The square roots of the numbers above 0, the others as they are.
 pub fn whiten(chroma: &Chroma) -> Chroma {
-    probe_whiten(chroma).values
+    // SAFETY: the call writes its whole answer.
+    unsafe { answer_of(|answer| probe_whiten(answer, chroma)) }
 }
 
 /// The chroma divided by its sum, where that is above 2^-23.
 pub fn normalize(chroma: &Chroma) -> Chroma {
-    probe_normalize(chroma).values
+    // SAFETY: the call writes its whole answer.
+    unsafe { answer_of(|answer| probe_normalize(answer, chroma)) }
 }
 
 /// The onset weight of the frame at a place; 0 behind the last one.
@@ -67,7 +64,8 @@ pub fn tuning(frames: &[Chroma], count: usize) -> f32 {
 
 /// The chroma shifted up by an offset in bins.
 pub fn shift(chroma: &Chroma, offset: f32) -> Chroma {
-    probe_shift(chroma, offset).values
+    // SAFETY: the call writes its whole answer.
+    unsafe { answer_of(|answer| probe_shift(answer, chroma, offset)) }
 }
 
 /// The median of the first `count` numbers, which are zero afterwards; 0 where there are none or fewer.

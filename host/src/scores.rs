@@ -1,4 +1,5 @@
 //! The 24 scores and the key of a chroma, worked out by the library.
+use crate::by_pointer::answer_of;
 use std::fmt;
 
 /// A chroma has a number for each pitch class, from C upward.
@@ -30,7 +31,7 @@ pub struct KeyResult {
 
 unsafe extern "C" {
     fn ulyptesh_scores(chroma: *const f32, count: usize, room: *mut f32, places: usize) -> ScoresResult;
-    fn ulyptesh_key(chroma: *const f32, count: usize) -> KeyResult;
+    fn ulyptesh_key(answer: *mut KeyResult, chroma: *const f32, count: usize) -> *mut KeyResult;
 }
 
 /// Why there are no scores or no key.
@@ -76,8 +77,8 @@ pub fn scores_answer(chroma: &[f32], room: &mut [f32]) -> ScoresResult {
 
 /// The library's own answer about the key, as it is.
 pub fn key_answer(chroma: &[f32]) -> KeyResult {
-    // SAFETY: pointer and count are one slice, which outlives the call.
-    unsafe { ulyptesh_key(chroma.as_ptr(), chroma.len()) }
+    // SAFETY: pointer and count are one slice, which outlives the call; the call writes its whole answer.
+    unsafe { answer_of(|answer| ulyptesh_key(answer, chroma.as_ptr(), chroma.len())) }
 }
 
 /// Writes the 24 scores to the front of `room`; the places behind them stay.

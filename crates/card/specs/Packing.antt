@@ -15,6 +15,11 @@ numberIf false n = Refused
 abbrev pub limited : ℕ → ℕ → Packed
 limited limit n = numberIf (leb n limit) n
 
+-- a packed number, or another where there is none
+abbrev pub numberOr : ℕ → Packed → ℕ
+numberOr other (Number n) = n
+numberOr other Refused = other
+
 -- how many whole 1 / n there are in a float's size; below 2^32
 abbrev pub wholeTimes : Float → ℕ → Packed
 wholeTimes nan n = Refused

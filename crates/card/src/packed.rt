@@ -1,7 +1,7 @@
 // Thousandths and milliseconds of a float's exact value.
 ghost use mathlib.Core.Path.{_≡_};
 ghost use Prim.Native.Nat.{_^_, _≤_, _<_};
-ghost use Rattle.card.specs.Packing.{wholeTimes, thousandthsOf, millisecondsOf, upTo, nearestOf, raisedOf};
+ghost use Rattle.card.specs.Packing.{numberOr, wholeTimes, thousandthsOf, millisecondsOf, upTo, nearestOf, raisedOf};
 use crate::bits::high_bits;
 use crate::bits::low_bits;
 use numbers::convert::widen;
@@ -11,6 +11,16 @@ use numbers::double::is_nan;
 pub enum Packed {
     Number(u64),
     Refused,
+}
+
+// A packed number, or another where there is none.
+pub fn number_or(other: u64, packed: Packed) -> u64
+    ensures { λ r. ⌜ r ≡ numberOr other packed ⌝ }
+{
+    match packed {
+        Packed::Number(n) => n,
+        Packed::Refused => other,
+    }
 }
 
 // How many whole 1 / n there are in the size of x; below 2^32.

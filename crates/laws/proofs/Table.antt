@@ -8,11 +8,11 @@ use lib.ListN.{getD}
 use Rattle.laws.specs.Table.{Check, firstOf, orFrom, anyOf, andFrom, allOf}
 
 -- of a failed `a || b` both failed
-left-failed : (a b : Bool) → (a || b) ≡ false → a ≡ false
+pub left-failed : (a b : Bool) → (a || b) ≡ false → a ≡ false
 left-failed false b e = refl
 left-failed true b e = e
 
-right-failed : (a b : Bool) → (a || b) ≡ false → b ≡ false
+pub right-failed : (a b : Bool) → (a || b) ≡ false → b ≡ false
 right-failed false b e = e
 right-failed true false e = refl
 right-failed true true e = e

@@ -15,8 +15,13 @@ use Rattle.scores.specs.Correlation.{sumsOf, quotientOf, correlationOf}
 use Rattle.scores.specs.Scores.{scoreOf, scoresOf}
 use Rattle.scores.specs.Places.{placed, candidateAt, placesOf}
 use Rattle.scores.specs.Classify.{louder, chosenKey, confidenceOf, classifiedOf}
-use Rattle.sixteen.specs.Rows.{rowL, rowM, rowN, rows, RowsHold}
+use Rattle.laws.specs.First.{first}
+use Rattle.card.specs.Bits.{bitsOf, numberOf, bytesCut}
+use Rattle.card.specs.Layout.{segmentsBits, cardBytes}
+use Rattle.card.specs.Rules.{headerBroken, segmentBroken, cardBroken}
+use Rattle.card.specs.Analysed.{unequal, unwritable}
+use Rattle.sixteen.specs.Rows.{rowL, rowM, rowN, rowO, rowP, rows, RowsHold}
 
 pub rows-hold : RowsHold
-unfolding rows rowL rowM rowN classOf blended readAt shifted floored ofInt toSigned every isNan lt eq add sub mul div neg toBits ofBits turns list magnitudeOf maximumNumber clampedTo sumOf wholeRoot doubledRoot rootOfUnits rootOf tonics profiles profileAt sumsOf quotientOf correlationOf scoreOf scoresOf placed candidateAt placesOf louder chosenKey confidenceOf classifiedOf
+unfolding rows rowL rowM rowN rowO rowP first bitsOf numberOf bytesCut segmentsBits cardBytes headerBroken segmentBroken cardBroken unequal unwritable classOf blended readAt shifted floored ofInt toSigned every isNan lt eq add sub mul div neg toBits ofBits turns list magnitudeOf maximumNumber clampedTo sumOf wholeRoot doubledRoot rootOfUnits rootOf tonics profiles profileAt sumsOf quotientOf correlationOf scoreOf scoresOf placed candidateAt placesOf louder chosenKey confidenceOf classifiedOf
 rows-hold = tt

@@ -17,8 +17,14 @@ use Rattle.laws.specs.Front.{front}
 use Rattle.keys.specs.declared.Key.{Key}
 use Rattle.keys.specs.Numbers.{keyAt}
 use Rattle.keys.specs.Names.{nameOf}
-use Rattle.ulyptesh.specs.declared.names.KeyName.{KeyName}
-use Rattle.ulyptesh.specs.KeyNames.{answered, outcome, keyNameOf}
+use Rattle.ulyptesh.specs.declared.written.Written.{Written}
+use Rattle.ulyptesh.specs.Written.{answered, outcome}
+use Rattle.ulyptesh.specs.KeyNames.{keyNameOf}
+use Rattle.card.specs.declared.layout.Layout.{Layout}
+use Rattle.card.specs.Layout.{layout1, cardBytes, cardSize}
+use Rattle.card.specs.Analysed.{Analysis, meaningOf, unwritable}
+use Rattle.card.proofs.Writable.{card-length}
+use Rattle.ulyptesh.specs.Cards.{cardOf, cardCall}
 
 -- ---- the 24 scores
 module _ (chroma places : List Float) where
@@ -51,18 +57,39 @@ module _ (chroma : List Float) where
 
 -- ---- write a key name
 module _ (number : ℕ) (bytes : List ℕ) where
-  pub no-key : {r : KeyName} → 23 < number → r ≡ answered 11 0 → outcome r bytes ≡ keyNameOf number bytes
-  no-key h e = ap (λ (a : KeyName). outcome a bytes) e ∙ rw (lt-ltb 23 number h)
+  pub no-key : {r : Written} → 23 < number → r ≡ answered 11 0 → outcome r bytes ≡ keyNameOf number bytes
+  no-key h e = ap (λ (a : Written). outcome a bytes) e ∙ rw (lt-ltb 23 number h)
 
   module _ {key : Key} {count : ℕ} (h : number ≤ 23) (k : key ≡ keyAt number) (l : count ≡ length (nameOf key)) where
     long : count ≡ length (nameOf (keyAt number))
     long = l ∙ ap (λ (z : Key). length (nameOf z)) k
 
-    pub no-room : {r : KeyName} → length bytes < count → r ≡ answered 12 0 → outcome r bytes ≡ keyNameOf number bytes
-    no-room s e = ap (λ (a : KeyName). outcome a bytes) e ∙ rw (le-ltb 23 number h, lt-ltb (length bytes) _ (subst (λ (n : ℕ). length bytes < n) long s))
+    pub no-room : {r : Written} → length bytes < count → r ≡ answered 12 0 → outcome r bytes ≡ keyNameOf number bytes
+    no-room s e = ap (λ (a : Written). outcome a bytes) e ∙ rw (le-ltb 23 number h, lt-ltb (length bytes) _ (subst (λ (n : ℕ). length bytes < n) long s))
 
     pub written : {n : ℕ} {left : List ℕ} → count ≤ length bytes → n ≡ length (nameOf key) → left ≡ front (nameOf key) bytes → outcome (answered 0 n) left ≡ keyNameOf number bytes
     written {n} {left} s e f =
         ap (λ (m : ℕ). outcome (answered 0 m) left) (e ∙ ap (λ (z : Key). length (nameOf z)) k)
         ∙ ap (outcome _) (f ∙ ap (λ (z : Key). front (nameOf z) bytes) k)
         ∙ rw (le-ltb 23 number h, le-ltb (length bytes) _ (subst (λ (m : ℕ). m ≤ length bytes) long s))
+
+-- ---- write a card, in a layout that is layout 1
+module _ (l : Layout) (first : l ≡ layout1) (a : Analysis) (bytes : List ℕ) where
+  pub no-card : {r : Written} → unwritable l a ≡ true → r ≡ answered 11 0 → outcome r bytes ≡ cardCall a bytes
+  no-card t e = ap (λ (w : Written). outcome w bytes) e ∙ rw (rw first at t)
+
+  module _ (w : unwritable l a ≡ false) {size : ℕ} (s : size ≡ cardSize l (length (a .ends))) where
+    ours : unwritable layout1 a ≡ false
+    ours = rw first at w
+
+    size-is : size ≡ length (cardOf a)
+    size-is = s ∙ sym (card-length l a) ∙ ap (λ (k : Layout). length (cardBytes k (meaningOf k a))) first
+
+    pub no-card-room : {r : Written} → length bytes < size → r ≡ answered 12 0 → outcome r bytes ≡ cardCall a bytes
+    no-card-room h e = ap (λ (x : Written). outcome x bytes) e ∙ rw (ours, lt-ltb (length bytes) _ (subst (λ (n : ℕ). length bytes < n) size-is h))
+
+    pub card-written : {n : ℕ} {left : List ℕ} → size ≤ length bytes → n ≡ cardSize l (length (a .ends)) → left ≡ front (cardBytes l (meaningOf l a)) bytes → outcome (answered 0 n) left ≡ cardCall a bytes
+    card-written {n} {left} h e f =
+        ap (λ (m : ℕ). outcome (answered 0 m) left) (e ∙ sym s ∙ size-is)
+        ∙ ap (outcome _) (f ∙ ap (λ (k : Layout). front (cardBytes k (meaningOf k a)) bytes) first)
+        ∙ rw (ours, le-ltb (length bytes) _ (subst (λ (m : ℕ). m ≤ length bytes) size-is h))

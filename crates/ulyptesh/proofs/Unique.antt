@@ -2,6 +2,7 @@
 use mathlib.Core.Path.{sym, _∙_}
 use Rattle.ulyptesh.specs.FromChroma.{ScoresUnique, KeyUnique}
 use Rattle.ulyptesh.specs.KeyNames.{KeyNameUnique}
+use Rattle.ulyptesh.specs.Cards.{CardUnique}
 
 pub scores-unique : ScoresUnique
 scores-unique chroma places a b p q = p ∙ sym q
@@ -11,3 +12,6 @@ key-unique chroma a b p q = p ∙ sym q
 
 pub key-name-unique : KeyNameUnique
 key-name-unique number bytes a b p q = p ∙ sym q
+
+pub card-unique : CardUnique
+card-unique analysis bytes a b p q = p ∙ sym q

@@ -8,20 +8,7 @@ use Rattle.laws.specs.Front.{front}
 use Rattle.laws.specs.Table.{_gives_, firstOf}
 use Rattle.keys.specs.Numbers.{keyAt}
 use Rattle.keys.specs.Names.{nameOf}
-use Rattle.ulyptesh.specs.declared.names.KeyName.{KeyName}
-
--- the call's answer: 01's number, or 0, and how many bytes were written
-abbrev pub answered : ℕ → ℕ → KeyName
-answered refusal count = record { refusal = refusal; length = count }
-
--- what the call answers, and what it leaves in the lent bytes
-pub record Outcome : Type 0 where
-  pub answer : KeyName
-  pub bytes : List ℕ
-
--- both together
-abbrev pub outcome : KeyName → List ℕ → Outcome
-outcome answer bytes = record { answer = answer; bytes = bytes }
+use Rattle.ulyptesh.specs.Written.{Outcome, answered, outcome}
 
 -- 11 for a number above 23 and 12 for too few bytes leave the bytes as they are; else the name stands at their front
 abbrev pub keyNameOf : ℕ → List ℕ → Outcome

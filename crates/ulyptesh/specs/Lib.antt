@@ -1,2 +1,4 @@
 pub mod FromChroma
+pub mod Written
 pub mod KeyNames
+pub mod Cards

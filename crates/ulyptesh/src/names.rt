@@ -1,28 +1,17 @@
 // The call "write a key name".
 ghost use mathlib.Core.Path.{_≡_};
-ghost use Rattle.ulyptesh.specs.KeyNames.{answered, outcome, keyNameOf};
+ghost use Rattle.ulyptesh.specs.KeyNames.{keyNameOf};
+ghost use Rattle.ulyptesh.specs.Written.{outcome};
+use crate::written::Written;
+use crate::written::refused;
 use keys::names::name_length;
 use keys::names::write_name;
 use keys::numbers::key_from_index;
 
-// The refusal's number, or 0, and how many bytes were written.
-#[repr(C)]
-pub struct KeyName {
-    pub refusal: u32,
-    pub length: usize,
-}
-
-// A call that writes nothing.
-fn refused(refusal: u32) -> KeyName
-    ensures { λ r. ⌜ r ≡ answered refusal 0 ⌝ }
-{
-    KeyName { refusal, length: 0 }
-}
-
 // Writes the name of the key with this number from the front of `bytes`. Refusals: 11 a number above
 // 23, 12 too few bytes.
 #[no_mangle]
-pub extern "C" fn ulyptesh_write_key_name(number: u32, bytes: &mut [u8]) -> KeyName
+pub extern "C" fn ulyptesh_write_key_name(number: u32, bytes: &mut [u8]) -> Written
     ensures { λ r. ⌜ outcome r (now (bytes .exit)) ≡ keyNameOf number (now (bytes .entry)) ⌝ }
 {
     if number > 23 {
@@ -32,7 +21,7 @@ pub extern "C" fn ulyptesh_write_key_name(number: u32, bytes: &mut [u8]) -> KeyN
     if bytes.len() < name_length(key) {
         return refused(12);
     }
-    KeyName {
+    Written {
         refusal: 0,
         length: write_name(key, bytes),
     }

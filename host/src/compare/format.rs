@@ -15,6 +15,11 @@ pub trait Format: Compared + Copy + PartialEq + 'static {
     fn pattern(self) -> u64;
     fn is_nan(self) -> bool;
 
+    /// Every NaN as the positive quiet one: some processors tell others apart.
+    fn one_nan(self) -> Self {
+        if self.is_nan() { Self::ONE_NAN } else { self }
+    }
+
     fn rust_order(self, other: Self) -> Ordering;
     fn rust_max(self, other: Self) -> Self;
     fn rust_min(self, other: Self) -> Self;

@@ -1,8 +1,9 @@
 //! Keys, beside the oracle's.
 use super::groups::{Groups, compared_exactly};
 use super::key_lime::expose::{are_relative_keys, key_from_index, key_number};
-use ulyptesh_host::key_name::{self, KeyName, NO_SUCH_KEY, TOO_FEW_BYTES};
+use ulyptesh_host::key_name;
 use ulyptesh_host::probe::{probe_are_relative_keys, probe_key_number, probe_same_key};
+use ulyptesh_host::written::{TOO_FEW_BYTES, UNWRITABLE, Written};
 
 const KEYS: u32 = 24;
 
@@ -14,32 +15,32 @@ type Bytes = [u8; MOST_LENT + 4];
 
 /// A call's answer and what it left in the bytes.
 #[derive(Debug, PartialEq)]
-struct Written {
-    answer: KeyName,
+struct Named {
+    answer: Written,
     bytes: Bytes,
 }
 
-compared_exactly!(Written);
+compared_exactly!(Named);
 
 /// Bytes that no name has, each place another.
 fn untouched() -> Bytes {
     std::array::from_fn(|place| 0xa0 + place as u8)
 }
 
-fn ours((number, lent): (u32, usize)) -> Written {
+fn ours((number, lent): (u32, usize)) -> Named {
     let mut bytes = untouched();
     let answer = key_name::answer(number, &mut bytes[..lent]);
-    Written { answer, bytes }
+    Named { answer, bytes }
 }
 
-fn refused(refusal: u32) -> Written {
-    Written { answer: KeyName { refusal, length: 0 }, bytes: untouched() }
+fn refused(refusal: u32) -> Named {
+    Named { answer: Written { refusal, length: 0 }, bytes: untouched() }
 }
 
 /// The oracle's `Display` at the front of the bytes, or the refusal.
-fn theirs((number, lent): (u32, usize)) -> Written {
+fn theirs((number, lent): (u32, usize)) -> Named {
     if number >= KEYS {
-        return refused(NO_SUCH_KEY);
+        return refused(UNWRITABLE);
     }
     let name = key_from_index(number as usize).to_string();
     if lent < name.len() {
@@ -47,7 +48,7 @@ fn theirs((number, lent): (u32, usize)) -> Written {
     }
     let mut bytes = untouched();
     bytes[..name.len()].copy_from_slice(name.as_bytes());
-    Written { answer: KeyName { refusal: 0, length: name.len() }, bytes }
+    Named { answer: Written { refusal: 0, length: name.len() }, bytes }
 }
 
 /// Each number with room of every length.

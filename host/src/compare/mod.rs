@@ -1,7 +1,9 @@
 //! A module per topic; a named group of inputs is one test.
 extern crate key_lime;
 
+mod analyses;
 mod borderline;
+mod cards;
 mod chroma_edges;
 mod chroma_leaves;
 mod chromas;
@@ -56,6 +58,7 @@ fn compare(given: &Options) -> ExitCode {
     chroma_leaves::compare(&mut groups);
     medians::compare(&mut groups);
     packed::compare(&mut groups);
+    cards::compare(&mut groups);
     groups.close()
 }
 

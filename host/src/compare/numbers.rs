@@ -16,7 +16,7 @@ fn compare_finite<F: Format>(groups: &mut Groups, values: impl Iterator<Item = F
 /// `x.max(0.0)`, which the Rust writes with the constant: bits equal, +0 for zeros.
 fn compare_larger_than_zero<F: Format>(groups: &mut Groups, values: impl Iterator<Item = F>) {
     let name = format!("larger {} with 0", F::NAME);
-    groups.group(&name, values, |x| x.our_larger(F::of_pattern(0)), F::rust_max_with_zero);
+    groups.group(&name, values, |x| x.our_larger(F::of_pattern(0)), |x| x.one_nan().rust_max_with_zero());
 }
 
 fn compare_root_and_floor<V: Iterator<Item = f32>>(groups: &mut Groups, which: &str, values: impl Fn() -> V) {

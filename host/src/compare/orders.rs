@@ -5,8 +5,7 @@ use super::groups::Groups;
 
 /// Rust's total order with one NaN, the positive one, which is last.
 fn at_or_before<F: Format>((a, b): (F, F)) -> bool {
-    let one_nan = |x: F| if x.is_nan() { F::ONE_NAN } else { x };
-    one_nan(a).rust_order(one_nan(b)).is_le()
+    a.one_nan().rust_order(b.one_nan()).is_le()
 }
 
 /// Equal numbers with different patterns: only +0 and -0 are.
@@ -19,7 +18,7 @@ fn wanted_larger<F: Format>((a, b): (F, F)) -> F {
     if zeros_of_both_signs(a, b) {
         return F::of_pattern(0);
     }
-    a.rust_max(b)
+    a.one_nan().rust_max(b.one_nan())
 }
 
 /// Rust's min. It leaves the sign of zeros of both signs open; ours is -0.
@@ -27,7 +26,7 @@ fn wanted_smaller<F: Format>((a, b): (F, F)) -> F {
     if zeros_of_both_signs(a, b) {
         return F::of_pattern(1 << (F::DIGIT_BITS + F::EXPONENT_BITS));
     }
-    a.rust_min(b)
+    a.one_nan().rust_min(b.one_nan())
 }
 
 fn compare_format<F: Format>(groups: &mut Groups) {

@@ -4,11 +4,11 @@ use super::groups::Groups;
 use super::random::patterns;
 use ulyptesh_host::probe::{probe_milliseconds, probe_thousandths};
 
-/// What the probes answer for none.
-const REFUSED: u64 = u64::MAX;
+/// What stands for none, in the answers of the probes too.
+pub(super) const REFUSED: u64 = u64::MAX;
 
 /// The longest track, in seconds.
-const LONGEST: u64 = 14_400;
+pub(super) const LONGEST: u64 = 14_400;
 
 /// So many random numbers of each kind.
 const RANDOM: usize = 1 << 20;
@@ -34,7 +34,7 @@ fn up_to(limit: u64, n: u128) -> u64 {
 }
 
 /// The exact value times 1000, rounded down.
-fn exact_thousandths(x: f32) -> u64 {
+pub(super) fn exact_thousandths(x: f32) -> u64 {
     if x.is_nan() || x < 0.0 {
         return REFUSED;
     }
@@ -42,7 +42,7 @@ fn exact_thousandths(x: f32) -> u64 {
 }
 
 /// The exact value times 1000, to the nearest, halves up, by its whole halves; below 0 no number is exactly one half.
-fn exact_milliseconds(x: f64) -> u64 {
+pub(super) fn exact_milliseconds(x: f64) -> u64 {
     let halves = fraction(x.abs()).map(|(digits, places)| halved(digits * 2000, places));
     match halves {
         Some(0) => 0,

@@ -1,0 +1,49 @@
+// The call "write a card".
+ghost use mathlib.Core.Path.{_≡_};
+ghost use Rattle.card.specs.Analysed.{analysis};
+ghost use Rattle.ulyptesh.specs.Cards.{overall, cardCall};
+ghost use Rattle.ulyptesh.specs.Written.{outcome};
+use crate::written::Written;
+use crate::written::refused;
+use card::analysed::Overall;
+use card::analysed::is_unwritable;
+use card::analysed::write_card;
+use card::layout::card_size;
+use card::layout::layout_1;
+
+// Writes the key card of an analysis from the front of `bytes`: keys by number, 24 for a missing one,
+// and segments in four slices. Refusals: 11 a card rule broken or slices of unequal length, 12 too few bytes.
+#[no_mangle]
+pub extern "C" fn ulyptesh_write_card(
+    key: u32,
+    dsp: u32,
+    alternate: u32,
+    coverage: f32,
+    confidence: f32,
+    starts: &[f64],
+    ends: &[f64],
+    keys: &[u8],
+    confidences: &[f32],
+    bytes: &mut [u8],
+) -> Written
+    ensures { λ r. ⌜ outcome r (now (bytes .exit)) ≡ cardCall (analysis (overall key dsp alternate coverage confidence) (now (starts .entry)) (now (ends .entry)) (now (keys .entry)) (now (confidences .entry))) (now (bytes .entry)) ⌝ }
+{
+    let o = Overall {
+        key,
+        dsp,
+        alternate,
+        coverage,
+        confidence,
+    };
+    let l = layout_1();
+    if is_unwritable(l, o, starts, ends, keys, confidences) {
+        return refused(11);
+    }
+    if bytes.len() < card_size(l, ends.len()) {
+        return refused(12);
+    }
+    Written {
+        refusal: 0,
+        length: write_card(bytes, l, o, ends, keys, confidences),
+    }
+}
