@@ -1,15 +1,30 @@
 //! The library from a terminal.
 use std::io::{self, Write};
 use std::process::ExitCode;
+use ulyptesh_host::card::{Analysis, NO_KEY, card};
 use ulyptesh_host::key_name::key_name;
 use ulyptesh_host::scores::key;
 
-const USAGE: &str = "usage: ulyptesh demo               the 24 keys by number, and the key of a triad
+const USAGE: &str =
+    "usage: ulyptesh demo               the 24 keys by number, the key of a triad, and a key card
        ulyptesh key-name NUMBER    the name of one key
        ulyptesh key NUMBER x12     the key of a chroma: a number for each pitch class, from C upward";
 
 /// A, C and E, with A the loudest.
 const TRIAD: [f32; 12] = [0.8, 0.0, 0.0, 0.0, 0.7, 0.0, 0.0, 0.0, 0.0, 1.0, 0.0, 0.0];
+
+/// Three minutes of A minor, in one segment.
+const THREE_MINUTES: Analysis<'_> = Analysis {
+    key: 21,
+    dsp_key: 21,
+    alternate: NO_KEY,
+    coverage: 0.0,
+    confidence: 0.5,
+    starts: &[0.0],
+    ends: &[180.0],
+    keys: &[21],
+    confidences: &[0.5],
+};
 
 /// What went wrong, with the exit status that says so.
 struct Failure {
@@ -31,7 +46,14 @@ fn say(line: &str) -> Result<(), Failure> {
 
 fn demo() -> Result<(), Failure> {
     (0..24).try_for_each(|number| say(&format!("{number:2}  {}", key_name(number).map_err(refused)?)))?;
-    say(&format!("a chroma of A, C and E is {}", key_of(&TRIAD)?))
+    say(&format!("a chroma of A, C and E is {}", key_of(&TRIAD)?))?;
+    say(&format!("the card of three minutes in A minor is {}", card_of(&THREE_MINUTES)?))
+}
+
+/// The bytes of a card, in hexadecimal.
+fn card_of(told: &Analysis<'_>) -> Result<String, Failure> {
+    let bytes = card(told).map_err(refused)?;
+    Ok(bytes.iter().map(|byte| format!("{byte:02X}")).collect::<Vec<_>>().join(" "))
 }
 
 /// The key's name with what speaks for it, each number in as few digits as tell it from all others.
