@@ -1,13 +1,13 @@
 -- One card has one meaning: equal bytes have equal bits, and bits of equal widths are equal field by field, from the last to the first.
-use mathlib.Core.Path.{_≡_, refl, sym, ap, ap₂, _∙_, subst}
+use mathlib.Core.Path.{_≡_, refl, sym, ap, ap₂, _∙_}
 use mathlib.Core.List.{List, [], _∷_, _++_, append-assoc}
-use Prim.Native.Nat.{ℕ, zero, suc, _+_, _-_, _*_, _%_, _^_, _<_}
+use Prim.Native.Nat.{ℕ, suc, _-_, _*_, _^_, _<_}
 use native.Mathlib.Nat.{mod-eq-of-lt}
 use native.Mathlib.Omega.{arith}
 use lib.ListN.{length, take, drop, replicate, length-append}
 use lib.Seq.{take-at, drop-at}
-use Rattle.card.specs.Bits.{bitsOf, numberOf, bitsOfBytes, bytesFor, withFiller}
-use Rattle.card.specs.Layout.{Meaning, LayoutFits, HeaderFits, SegmentFits, headerBits, segmentWidth, segmentBits, segmentsBits, cardBits, cardBytes}
+use Rattle.card.specs.Bits.{bitsOf, numberOf, bitsOfBytes, bytesFor}
+use Rattle.card.specs.Layout.{Meaning, HeaderFits, SegmentFits, headerBits, segmentWidth, segmentBits, segmentsBits, cardBits, cardBytes}
 use Rattle.card.specs.Rules.{segmentIn}
 use Rattle.card.specs.Analysed.{Analysis, meaningOf, OneMeaningOneCard}
 use Rattle.card.specs.declared.layout.Layout.{Layout}

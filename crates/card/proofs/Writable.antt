@@ -2,15 +2,12 @@
 use mathlib.Core.Path.{_≡_, _∙_, ap, subst}
 use mathlib.Core.Bool.{false}
 use Prim.Native.Nat.{ℕ, _^_, _<_}
-use native.Mathlib.Nat.{lt-of-lt-of-le}
 use native.Mathlib.Omega.{arith}
 use lib.ListN.{length}
-use lib.Pow.{pow-mono}
-use Rattle.card.specs.Layout.{LayoutFits, HeaderFits, layout1, cardBytes, cardSize}
+use Rattle.card.specs.Layout.{LayoutFits, layout1, cardBytes, cardSize}
 use Rattle.card.specs.Rules.{cardBroken}
 use Rattle.card.specs.Analysed.{Analysis, meaningOf, unwritable}
 use Rattle.card.specs.declared.layout.Layout.{Layout}
-use Rattle.card.specs.declared.layout.Header.{Header}
 use Rattle.card.proofs.Puts.{length-card}
 use Rattle.card.proofs.Broken.{segments-count, equal-lengths, writable-lengths, writable-good}
 use Rattle.card.proofs.Fits.{card-fits, few-segments}

@@ -1,15 +1,14 @@
 -- The loop's invariant: the search goes on from i, and `previous` is the packed end before segment i.
 use mathlib.Core.Path.{_≡_, refl, sym, ap, _∙_}
-use mathlib.Core.Bool.{Bool}
 use mathlib.Core.List.{List}
-use Prim.Native.Nat.{ℕ, _+_, _-_, _≤_, _<_}
+use Prim.Native.Nat.{ℕ, _-_, _≤_, _<_}
 use native.Mathlib.Numerals.{add-one}
 use native.Mathlib.Omega.{arith}
 use lib.ListN.{length}
 use borrow.Author.Needs.{needs}
 use Rattle.laws.specs.First.{first}
 use Rattle.laws.proofs.First.{first-start, first-again, first-out, first-end}
-use Rattle.card.specs.Rules.{segmentIn, before, segmentBroken, brokenAt, firstBroken}
+use Rattle.card.specs.Rules.{segmentIn, before, brokenAt, firstBroken}
 use Rattle.card.specs.Analysed.{packedSegments}
 use Rattle.card.specs.declared.layout.Segment.{Segment}
 use Rattle.card.proofs.Broken.{segments-count, segment-packed, told-broken}

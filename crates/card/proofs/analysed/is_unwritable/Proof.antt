@@ -1,6 +1,6 @@
 -- Each return is a test that passed, those before it having failed.
-use mathlib.Core.Path.{_≡_, sym, ap, _∙_, subst}
-use mathlib.Core.Bool.{Bool, true, false}
+use mathlib.Core.Path.{_≡_, ap, _∙_, subst}
+use mathlib.Core.Bool.{Bool, false}
 use Prim.Native.Nat.{ℕ, _≤_, _<_}
 use lib.Dec.{ltb}
 use lib.ListN.{length}
@@ -10,7 +10,7 @@ use Rattle.laws.proofs.Table.{told}
 use Rattle.card.specs.Rules.{headerBroken}
 use Rattle.card.specs.Analysed.{Analysis, analysis}
 use Rattle.card.specs.declared.layout.Header.{Header}
-use Rattle.card.proofs.Broken.{Unequal, InHeader, InSegments, equal-lengths, by-lengths, by-header, by-segments, by-gaps}
+use Rattle.card.proofs.Broken.{Unequal, InHeader, equal-lengths, by-lengths, by-header, by-segments, by-gaps}
 use Rattle.card.proofs.analysed.is_unwritable.Statement.{statement}
 use Rattle.card.proofs.analysed.is_unwritable.Tie as tie
 

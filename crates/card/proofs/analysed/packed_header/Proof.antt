@@ -2,31 +2,22 @@
 use borrow.Author.Needs.{needs}
 use Rattle.card.proofs.analysed.packed_header.Statement.{statement}
 use Rattle.card.proofs.analysed.packed_header.Tie as tie
-use Rattle.card.proofs.analysed.packed_header.Reads as reads
-use Rattle.card.proofs.analysed.packed_header.Lts as lts
-use Rattle.card.proofs.analysed.packed_part.Reads as packed-part-reads
 
--- src/analysed.rt:45:14
 cast-t2 : tie.Need-cast-t2
 cast-t2 c = search needs
 
--- src/analysed.rt:46:14
 cast-t3 : tie.Need-cast-t3
 cast-t3 c = search needs
 
--- src/analysed.rt:47:20
 cast-t4 : tie.Need-cast-t4
 cast-t4 c = search needs
 
--- src/analysed.rt:48:19
 packed-part-requires : tie.Need-packed-part-requires
 packed-part-requires c κs = search needs
 
--- src/analysed.rt:49:21
 packed-part-requires-2 : tie.Need-packed-part-requires-2
 packed-part-requires-2 c κs = search needs
 
--- src/analysed.rt:41:1
 returns : tie.Need-returns
 returns c = cc
 

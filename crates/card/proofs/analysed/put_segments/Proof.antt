@@ -3,7 +3,6 @@ use mathlib.Core.Path.{_≡_, sym, ap, subst}
 use Prim.Native.Nat.{ℕ, _-_, _≤_, _<_}
 use native.Mathlib.Omega.{arith}
 use lib.ListN.{length}
-use borrow.Author.Needs.{needs}
 use Rattle.laws.specs.Front.{list}
 use Rattle.card.specs.Pens.{BitsPut}
 use Rattle.card.specs.Layout.{SegmentFits, segmentBits, segmentsBits, segmentWidth}

@@ -1,15 +1,14 @@
 -- A fresh pen puts the header, the segments and the filler.
 use mathlib.Core.Path.{_≡_, sym, ap, _∙_, subst}
-use Prim.Native.Nat.{ℕ, _+_, _-_, _*_, _%_, _^_, _<_}
-use native.Mathlib.Nat.{lt-of-lt-of-le}
+use Prim.Native.Nat.{ℕ, _+_, _-_, _*_, _%_, _<_}
 use native.Mathlib.Omega.{arith}
 use lib.ListN.{length}
-use lib.Pow.{pow-pos, pow-mono}
+use lib.Pow.{pow-pos}
 use borrow.Author.Needs.{needs}
 use Rattle.card.specs.Bits.{bitsOf, HasBits}
 use Rattle.card.specs.Pens.{bitCount}
-use Rattle.card.specs.Layout.{Meaning, SegmentFits, HeaderFits, headerWidth, headerBits, segmentWidth, segmentsBits, cardSize}
-use Rattle.card.specs.Analysed.{packedAt, packedHeader, packedSegments, meaning}
+use Rattle.card.specs.Layout.{Meaning, SegmentFits, HeaderFits, headerWidth, headerBits, segmentWidth, segmentsBits}
+use Rattle.card.specs.Analysed.{packedAt, packedHeader, meaning}
 use Rattle.card.specs.declared.layout.Header.{Header}
 use Rattle.card.specs.declared.pen.Pen.{Pen}
 use Rattle.card.proofs.Digits.{length-bits}

@@ -1,6 +1,5 @@
 -- The tests stand in the definition's order.
 use borrow.Author.Needs.{needs}
-use mathlib.Core.Path.{refl}
 use Rattle.card.specs.Rules.{headerBroken}
 use Rattle.card.proofs.rules.header_broken.Statement.{statement}
 use Rattle.card.proofs.rules.header_broken.Tie as tie
