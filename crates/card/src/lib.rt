@@ -1,7 +1,3 @@
-// Key cards: an analysis in a few bytes, packed, checked and written.
-pub mod analysed;
-pub mod bits;
+// Key cards: what one says, and the rules that it keeps.
 pub mod layout;
-pub mod packed;
-pub mod pen;
 pub mod rules;

@@ -1,7 +1,7 @@
 -- A packed number as one number. Definitions only.
 use Prim.Native.Nat.{ℕ}
-use Rattle.card.specs.declared.packed.Packed.{Packed}
-use Rattle.card.specs.declared.packed.Packed.the-variants.{Number, Refused}
+use Rattle.packed.specs.declared.Packed.{Packed}
+use Rattle.packed.specs.declared.Packed.the-variants.{Number, Refused}
 
 -- the number; the largest one of 64 bits for none
 abbrev pub numberOf : Packed → ℕ

@@ -1,10 +1,10 @@
 // Numbers as a card packs them.
 ghost use mathlib.Core.Path.{_≡_};
-ghost use Rattle.card.specs.Packing.{thousandthsOf, millisecondsOf};
+ghost use Rattle.packed.specs.Packing.{thousandthsOf, millisecondsOf};
 ghost use Rattle.probe.specs.Packed.{numberOf};
-use card::packed::Packed;
-use card::packed::milliseconds;
-use card::packed::thousandths;
+use packed::Packed;
+use packed::milliseconds;
+use packed::thousandths;
 
 // A packed number; the largest number of 64 bits for none.
 fn number_of(packed: Packed) -> u64

@@ -16,10 +16,10 @@ use Rattle.scores.specs.Scores.{scoreOf, scoresOf}
 use Rattle.scores.specs.Places.{placed, candidateAt, placesOf}
 use Rattle.scores.specs.Classify.{louder, chosenKey, confidenceOf, classifiedOf}
 use Rattle.laws.specs.First.{first}
-use Rattle.card.specs.Bits.{bitsOf, numberOf, bytesCut}
-use Rattle.card.specs.Layout.{segmentsBits, cardBytes}
+use Rattle.bits.specs.Bits.{bitsOf, numberOf, bytesCut}
+use Rattle.card_writer.specs.Form.{segmentsBits, cardBytes}
 use Rattle.card.specs.Rules.{headerBroken, segmentBroken, cardBroken}
-use Rattle.card.specs.Analysed.{unequal, unwritable}
+use Rattle.card_writer.specs.Analysed.{unequal, unwritable}
 use Rattle.sixteen.specs.Rows.{rowL, rowM, rowN, rowO, rowP, rows, RowsHold}
 
 pub rows-hold : RowsHold

@@ -9,9 +9,10 @@ use Rattle.laws.specs.Every.{every}
 use Rattle.laws.specs.Values.{plusZero, one}
 use Rattle.keys.specs.Numbers.{keyNumber}
 use Rattle.chroma.specs.Shift.{shiftedOf}
-use Rattle.card.specs.Layout.{layout1, cardBytes}
+use Rattle.card.specs.Layout.{layout1}
+use Rattle.card_writer.specs.Form.{cardBytes}
 use Rattle.card.specs.Rules.{noKey}
-use Rattle.card.specs.Analysed.{Analysis, analysis, meaningOf, unwritable}
+use Rattle.card_writer.specs.Analysed.{Analysis, analysis, meaningOf, unwritable}
 use Rattle.scores.specs.declared.classify.Classified.{Classified}
 use Rattle.scores.specs.Classify.{confidenceOf, classifiedOf}
 

@@ -21,9 +21,10 @@ use Rattle.ulyptesh.specs.declared.written.Written.{Written}
 use Rattle.ulyptesh.specs.Written.{answered, outcome}
 use Rattle.ulyptesh.specs.KeyNames.{keyNameOf}
 use Rattle.card.specs.declared.layout.Layout.{Layout}
-use Rattle.card.specs.Layout.{layout1, cardBytes, cardSize}
-use Rattle.card.specs.Analysed.{Analysis, meaningOf, unwritable}
-use Rattle.card.proofs.Writable.{card-length}
+use Rattle.card.specs.Layout.{layout1}
+use Rattle.card_writer.specs.Form.{cardBytes, cardSize}
+use Rattle.card_writer.specs.Analysed.{Analysis, meaningOf, unwritable}
+use Rattle.card_writer.proofs.Writable.{card-length}
 use Rattle.ulyptesh.specs.Cards.{cardOf, cardCall}
 
 -- ---- the 24 scores

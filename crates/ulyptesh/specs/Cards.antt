@@ -7,9 +7,10 @@ use lib.ListN.{length}
 use lib.Ieee.{Float}
 use Rattle.laws.specs.Front.{front}
 use Rattle.laws.specs.Table.{_gives_, firstOf}
-use Rattle.card.specs.declared.analysed.Overall.{Overall}
-use Rattle.card.specs.Layout.{layout1, cardBytes}
-use Rattle.card.specs.Analysed.{Analysis, meaningOf, unwritable}
+use Rattle.card_writer.specs.declared.analysed.Overall.{Overall}
+use Rattle.card.specs.Layout.{layout1}
+use Rattle.card_writer.specs.Form.{cardBytes}
+use Rattle.card_writer.specs.Analysed.{Analysis, meaningOf, unwritable}
 use Rattle.ulyptesh.specs.Written.{Outcome, answered, outcome}
 
 -- what is said of the whole track

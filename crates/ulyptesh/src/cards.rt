@@ -1,15 +1,15 @@
 // The call "write a card".
 ghost use mathlib.Core.Path.{_≡_};
-ghost use Rattle.card.specs.Analysed.{analysis};
+ghost use Rattle.card_writer.specs.Analysed.{analysis};
 ghost use Rattle.ulyptesh.specs.Cards.{overall, cardCall};
 ghost use Rattle.ulyptesh.specs.Written.{outcome};
 use crate::written::Written;
 use crate::written::refused;
-use card::analysed::Overall;
-use card::analysed::is_unwritable;
-use card::analysed::write_card;
-use card::layout::card_size;
 use card::layout::layout_1;
+use card_writer::analysed::Overall;
+use card_writer::analysed::is_unwritable;
+use card_writer::analysed::write_card;
+use card_writer::fields::card_size;
 
 // Writes the key card of an analysis from the front of `bytes`: keys by number, 24 for a missing one,
 // and segments in four slices. Refusals: 11 a card rule broken or slices of unequal length, 12 too few bytes.

@@ -6,8 +6,8 @@ use lib.ListN.{length}
 use borrow.Author.Needs.{needs}
 use Rattle.laws.proofs.Table.{told}
 use Rattle.card.specs.Layout.{LayoutFits}
-use Rattle.card.specs.Analysed.{Analysis, analysis, unwritable}
-use Rattle.card.proofs.Writable.{Writable, writable, layout1-fits}
+use Rattle.card_writer.specs.Analysed.{Analysis, analysis, unwritable}
+use Rattle.card_writer.proofs.Writable.{Writable, writable, layout1-fits}
 use Rattle.ulyptesh.specs.Cards.{overall}
 use Rattle.ulyptesh.proofs.Outcomes.{no-card, no-card-room, card-written}
 use Rattle.ulyptesh.proofs.cards.ulyptesh_write_card.Statement.{statement}

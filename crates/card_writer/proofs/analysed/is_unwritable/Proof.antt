@@ -1,0 +1,93 @@
+-- Each return is a test that passed, those before it having failed.
+use mathlib.Core.Path.{_≡_, ap, _∙_, subst}
+use mathlib.Core.Bool.{Bool, false}
+use Prim.Native.Nat.{ℕ, _≤_, _<_}
+use lib.Dec.{ltb}
+use lib.ListN.{length}
+use borrow.Author.Needs.{needs}
+use borrow.Author.Tests.{lt-ltb, le-ltb}
+use Rattle.laws.proofs.Table.{told}
+use Rattle.card.specs.Rules.{headerBroken}
+use Rattle.card_writer.specs.Analysed.{Analysis, analysis}
+use Rattle.card.specs.declared.layout.Header.{Header}
+use Rattle.card_writer.proofs.Broken.{Unequal, InHeader, equal-lengths, by-lengths, by-header, by-segments, by-gaps}
+use Rattle.card_writer.proofs.analysed.is_unwritable.Statement.{statement}
+use Rattle.card_writer.proofs.analysed.is_unwritable.Tie as tie
+
+abbrev asked : tie.Start → Analysis
+asked c = analysis (c .args .o) (c .args .starts .now) (c .args .ends .now) (c .args .keys .now) (c .args .confidences .now)
+
+-- after the lengths
+module _ (c : tie.Else1) where
+  abbrev start : tie.Start
+  start = c .before .before .before .before .before .before
+
+  alike : Unequal (start .args .l) (asked start) false
+  alike = told (c .before .unequal-lengths .ensures) (c .if1 .left)
+
+-- after the header
+module _ (c : tie.After-header-broken) where
+  in-header : {b : Bool} → c .header-broken .result ≡ b → InHeader (start (c .before .before) .args .l) (asked (start (c .before .before))) b
+  in-header t =
+      let args = start (c .before .before) .args in
+      told (c .header-broken .ensures ∙ ap (λ (h : Header). headerBroken (args .l) h (length (args .ends .now))) (c .before .packed-header .ensures)) t
+
+unequal-lengths-requires : tie.Need-unequal-lengths-requires
+unequal-lengths-requires c κs = search needs
+
+returns : tie.Need-returns
+returns c =
+    let start = c .before .before .before .before .before .before in
+    by-lengths (start .args .l) (asked start) (told (c .before .unequal-lengths .ensures) (c .if1 .taken))
+
+packed-header-requires : tie.Need-packed-header-requires
+packed-header-requires c κs = search needs
+
+header-broken-requires : tie.Need-header-broken-requires
+header-broken-requires c κs = search needs
+
+returns-2 : tie.Need-returns-2
+returns-2 c =
+    let lengths = c .before .before .before in
+    by-header (start lengths .args .l) (asked (start lengths)) (alike lengths) (in-header (c .before) (c .if2 .taken))
+
+first-broken-requires : tie.Need-first-broken-requires
+first-broken-requires c κs =
+    let lengths = c .before .before .before in
+    let same = equal-lengths (start lengths .args .l) (asked (start lengths)) (alike lengths) in
+    (start lengths .pre, same .1, same .2)
+
+returns-3 : tie.Need-returns-3
+returns-3 c =
+    let header = c .before .before .before in
+    let lengths = header .before .before in
+    let broken = subst (λ (n : ℕ). n < length (start lengths .args .ends .now)) (c .before .first-broken .ensures) (c .if3 .taken) in
+    by-segments (start lengths .args .l) (asked (start lengths)) (alike lengths) (in-header header (c .before .before .if2 .left)) (lt-ltb _ _ broken)
+
+first-gap-requires : tie.Need-first-gap-requires
+first-gap-requires c κs =
+    let lengths = c .before .before .before .before .before in
+    equal-lengths (start lengths .args .l) (asked (start lengths)) (alike lengths) .0
+
+returns-4 : tie.Need-returns-4
+returns-4 c =
+    let header = c .before .before .before .before in
+    let lengths = header .before .before in
+    let count = length (start lengths .args .ends .now) in
+    let good = subst (λ (n : ℕ). count ≤ n) (c .before .before .first-broken .ensures) (c .before .if3 .left) in
+    ap (λ (n : ℕ). ltb n count) (c .first-gap .ensures)
+    ∙ by-gaps (start lengths .args .l) (asked (start lengths)) (alike lengths) (in-header header (c .before .before .before .if2 .left)) (le-ltb _ _ good)
+
+pub is-unwritable-spec : {M : Type 1} → statement M
+is-unwritable-spec =
+    tie.close
+    (tie.spec
+    unequal-lengths-requires
+    returns
+    packed-header-requires
+    header-broken-requires
+    returns-2
+    first-broken-requires
+    returns-3
+    first-gap-requires
+    returns-4)

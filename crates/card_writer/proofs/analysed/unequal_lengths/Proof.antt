@@ -1,0 +1,12 @@
+-- The tests stand in the definition's order.
+use mathlib.Core.Path.{refl}
+use Rattle.card_writer.specs.Analysed.{unequal}
+use Rattle.card_writer.proofs.analysed.unequal_lengths.Statement.{statement}
+use Rattle.card_writer.proofs.analysed.unequal_lengths.Tie as tie
+
+returns : tie.Need-returns
+unfolding unequal
+returns c = refl
+
+pub unequal-lengths-spec : {M : Type 1} → statement M
+unequal-lengths-spec = tie.close (tie.spec returns)

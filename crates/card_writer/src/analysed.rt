@@ -1,0 +1,188 @@
+// An analysis in seconds and parts of one: its packed numbers, whether a card can hold it, and the card.
+ghost use mathlib.Core.Path.{_≡_};
+ghost use Prim.Native.Nat.{_≤_};
+ghost use lib.ListN.{length};
+ghost use Rattle.laws.specs.Front.{front};
+ghost use Rattle.bits.specs.Pens.{BitsPut};
+ghost use Rattle.card.specs.Layout.{LayoutFits};
+ghost use Rattle.card_writer.specs.Form.{segmentsBits, cardSize, cardBytes};
+ghost use Rattle.card.specs.Rules.{firstBroken};
+ghost use Rattle.card_writer.specs.Analysed.{packedPart, packedHeader, packedSegment, packedSegments, analysis, meaning, unequal, firstGap, unwritable, CanPutSegments, CanWrite};
+use crate::fields::card_size;
+use crate::fields::header_number;
+use crate::fields::segment_number;
+use bits::pen::Pen;
+use bits::pen::put_bits;
+use card::layout::Header;
+use card::layout::Layout;
+use card::layout::Segment;
+use card::rules::header_broken;
+use card::rules::segment_broken;
+use packed::milliseconds;
+use packed::number_or;
+use packed::thousandths;
+
+// What an analysis says of the whole track: keys by number, 24 for a missing one.
+pub struct Overall {
+    pub key: u32,
+    pub dsp: u32,
+    pub alternate: u32,
+    pub coverage: f32,
+    pub confidence: f32,
+}
+
+// The packed number of a part of one, or 1001.
+fn packed_part(x: f32) -> u64
+    ensures { λ r. ⌜ r ≡ packedPart x ⌝ }
+{
+    number_or(1001, thousandths(x))
+}
+
+// A header's packed numbers.
+fn packed_header(o: Overall) -> Header
+    ensures { λ r. ⌜ r ≡ packedHeader o ⌝ }
+{
+    Header {
+        key: o.key as u64,
+        dsp: o.dsp as u64,
+        alternate: o.alternate as u64,
+        coverage: packed_part(o.coverage),
+        confidence: packed_part(o.confidence),
+    }
+}
+
+// A segment's packed numbers.
+fn packed_segment(l: Layout, end: f64, key: u8, confidence: f32) -> Segment
+    requires { ⌜ LayoutFits l ⌝ }
+    ensures { λ r. ⌜ r ≡ packedSegment l end key confidence ⌝ }
+{
+    let ends = milliseconds(end, l.last);
+    Segment {
+        end: number_or(l.last + 1, ends),
+        key: key as u64,
+        confidence: packed_part(confidence),
+    }
+}
+
+// Whether lists of these lengths are not equally long.
+fn unequal_lengths(starts: usize, ends: usize, keys: usize, confidences: usize) -> bool
+    ensures { λ r. ⌜ r ≡ unequal starts ends keys confidences ⌝ }
+{
+    !(starts == ends) | !(keys == ends) | !(confidences == ends)
+}
+
+// The first segment that does not start where the one before it ends, or their count.
+fn first_gap(starts: &[f64], ends: &[f64]) -> usize
+    requires { ⌜ length (now starts) ≡ length (now ends) ⌝ }
+    ensures { λ r. ⌜ r ≡ firstGap (now (starts .entry)) (now (ends .entry)) ⌝ }
+{
+    let count = ends.len();
+    let mut previous = 0.0;
+    let mut i = 0;
+    loop {
+        if i >= count {
+            break count;
+        }
+        if !(starts[i] == previous) {
+            break i;
+        }
+        previous = ends[i];
+        i += 1;
+    }
+}
+
+// The first segment that breaks a rule, or their count.
+fn first_broken(l: Layout, ends: &[f64], keys: &[u8], confidences: &[f32]) -> usize
+    requires { ⌜ LayoutFits l × (length (now keys) ≡ length (now ends)) × (length (now confidences) ≡ length (now ends)) ⌝ }
+    ensures { λ r. ⌜ r ≡ firstBroken l (packedSegments l (now (ends .entry)) (now (keys .entry)) (now (confidences .entry))) ⌝ }
+{
+    let count = ends.len();
+    let mut previous = 0;
+    let mut i = 0;
+    loop {
+        if i >= count {
+            break count;
+        }
+        let s = packed_segment(l, ends[i], keys[i], confidences[i]);
+        if segment_broken(l, count == 1, previous, s) {
+            break i;
+        }
+        previous = s.end;
+        i += 1;
+    }
+}
+
+// Whether no card of this layout holds the analysis.
+pub fn is_unwritable(
+    l: Layout,
+    o: Overall,
+    starts: &[f64],
+    ends: &[f64],
+    keys: &[u8],
+    confidences: &[f32],
+) -> bool
+    requires { ⌜ LayoutFits l ⌝ }
+    ensures { λ r. ⌜ r ≡ unwritable l (analysis o (now (starts .entry)) (now (ends .entry)) (now (keys .entry)) (now (confidences .entry))) ⌝ }
+{
+    let count = ends.len();
+    if unequal_lengths(starts.len(), count, keys.len(), confidences.len()) {
+        return true;
+    }
+    if header_broken(l, packed_header(o), count) {
+        return true;
+    }
+    if first_broken(l, ends, keys, confidences) < count {
+        return true;
+    }
+    first_gap(starts, ends) < count
+}
+
+// Puts the segments behind what the pen has put.
+fn put_segments(
+    bytes: &mut [u8],
+    first: Pen,
+    l: Layout,
+    ends: &[f64],
+    keys: &[u8],
+    confidences: &[f32],
+) -> Pen
+    requires { ⌜ CanPutSegments (now bytes) first l (now ends) (now keys) (now confidences) ⌝ }
+    ensures { λ r. ⌜ BitsPut (now (bytes .entry)) (now (bytes .exit)) first r (segmentsBits l (packedSegments l (now (ends .entry)) (now (keys .entry)) (now (confidences .entry)))) ⌝ }
+{
+    let width = l.end + 5 + 10;
+    let mut pen = first;
+    let mut i = 0;
+    while i < ends.len() {
+        let s = packed_segment(l, ends[i], keys[i], confidences[i]);
+        let number = segment_number(l, s);
+        pen = put_bits(bytes, pen, width, number);
+        i += 1;
+    }
+    pen
+}
+
+// Writes the card from the front of `bytes` and returns its length. Bytes beyond it stay.
+pub fn write_card(
+    bytes: &mut [u8],
+    l: Layout,
+    o: Overall,
+    ends: &[f64],
+    keys: &[u8],
+    confidences: &[f32],
+) -> usize
+    requires { ⌜ CanWrite (now bytes) l o (now ends) (now keys) (now confidences) ⌝ }
+    ensures { λ r. ⌜ (r ≡ cardSize l (length (now (ends .entry)))) × (now (bytes .exit) ≡ front (cardBytes l (meaning l o (now (ends .entry)) (now (keys .entry)) (now (confidences .entry)))) (now (bytes .entry))) ⌝ }
+{
+    let count = ends.len();
+    let size = card_size(l, count);
+    let fresh = Pen {
+        at: 0,
+        count: 0,
+        waiting: 0,
+    };
+    let header = header_number(l, packed_header(o), count);
+    let headed = put_bits(bytes, fresh, 39 + l.count, header);
+    let last = put_segments(bytes, headed, l, ends, keys, confidences);
+    put_bits(bytes, last, (8 - last.count) % 8, 0);
+    size
+}
