@@ -1,0 +1,41 @@
+-- What a call is given to read. Definitions only.
+use Prim.Native.Nat.{ℕ}
+use mathlib.Core.List.{List}
+use denote.Ref.{RefT, now}
+use lib.Ieee.{Float}
+use Rattle.calls.specs.declared.Settings.{Settings}
+use Rattle.calls.specs.declared.SheetHead.{SheetHead}
+
+-- a table sheet: its head, the frame window, the Goertzel rows and the constant-Q rows, whose windows are joined end to end
+pub record Sheet : Type 0 where
+  pub head : SheetHead
+  pub window : List Float
+  pub goertzelCoefficients : List Float
+  pub goertzelWeights : List Float
+  pub constantQLengths : List ℕ
+  pub constantQCoefficients : List Float
+  pub constantQWindows : List Float
+
+-- all that a call reads
+pub record Call : Type 0 where
+  pub settings : Settings
+  pub samples : List Float
+  pub sheet : Sheet
+
+-- a sheet as a contract has it: what the references refer to
+abbrev pub lentSheet : SheetHead → RefT (List Float) → RefT (List Float) → RefT (List Float) → RefT (List ℕ) → RefT (List Float) → RefT (List Float) → Sheet
+lentSheet head window coefficients weights lengths qCoefficients qWindows =
+    record {
+      head = head;
+      window = now window;
+      goertzelCoefficients = now coefficients;
+      goertzelWeights = now weights;
+      constantQLengths = now lengths;
+      constantQCoefficients = now qCoefficients;
+      constantQWindows = now qWindows;
+    }
+
+-- a call as a contract has it
+abbrev pub given : Settings → SheetHead → RefT (List Float) → RefT (List Float) → RefT (List Float) → RefT (List Float) → RefT (List ℕ) → RefT (List Float) → RefT (List Float) → Call
+given settings head samples window coefficients weights lengths qCoefficients qWindows =
+    record { settings = settings; samples = now samples; sheet = lentSheet head window coefficients weights lengths qCoefficients qWindows }
