@@ -112,3 +112,8 @@ told e t = sym e ∙ t
 
 pub told-not : {flag test answer : Bool} → flag ≡ test → not flag ≡ answer → not test ≡ answer
 told-not e t = ap not (sym e) ∙ t
+
+-- after a test that failed no later one counts
+pub failed-already : (ts : List Bool) → andFrom false ts ≡ false
+failed-already [] = refl
+failed-already (t ∷ ts) = failed-already ts

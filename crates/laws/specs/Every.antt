@@ -1,8 +1,14 @@
--- A test of every number below a bound, which the checker computes. Definitions only.
+-- A test of every number below a bound, which the checker computes, and of every entry of a list. Definitions only.
 use Prim.Native.Nat.{ℕ, zero, suc}
 use mathlib.Core.Bool.{Bool, true, _&&_}
+use mathlib.Core.List.{List}
+use lib.ListN.{length, getD}
 
 -- the test passes for each of the numbers 0 to n - 1
 unfoldable pub every : (ℕ → Bool) → ℕ → Bool
 every test zero = true
 every test (suc n) = every test n && test n
+
+-- every entry of the list passes the test; d is read nowhere
+unfoldable pub everyEntry : {A : Type 0} → (A → Bool) → A → List A → Bool
+everyEntry test d xs = every (λ (k : ℕ). test (getD xs k d)) (length xs)

@@ -1,0 +1,2 @@
+// Filters over a lent table sheet: whether the sheet may be used, and the chroma of a frame by Goertzel and by constant-Q.
+pub mod sheet;
