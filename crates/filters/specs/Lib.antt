@@ -1,1 +1,4 @@
 pub mod Sheet
+pub mod Resonator
+pub mod Classes
+pub mod Goertzel
