@@ -1,2 +1,4 @@
 pub mod Formed
 pub mod Rooms
+pub mod Spans
+pub mod Powers

@@ -2,3 +2,4 @@ pub mod Sheet
 pub mod Resonator
 pub mod Classes
 pub mod Goertzel
+pub mod ConstantQ

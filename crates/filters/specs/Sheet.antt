@@ -1,6 +1,7 @@
--- The table sheet of 01: checks 6 and 7. Definitions only.
-use Prim.Native.Nat.{ℕ, zero, suc, _+_, _-_}
-use mathlib.Core.Bool.{Bool, _&&_}
+-- The table sheet of 01: checks 6 and 7. Definitions and the statement.
+use mathlib.Core.Path.{_≡_}
+use Prim.Native.Nat.{ℕ, zero, suc, _+_, _-_, _<_, _≤_}
+use mathlib.Core.Bool.{Bool, true, _&&_}
 use mathlib.Core.List.{List, [], _∷_, _++_}
 use lib.Dec.{leb, eqb}
 use lib.ListN.{length, getD}
@@ -78,3 +79,16 @@ listsFit s = allOf (lengthRules s)
 -- check 7: every rule of the sheet holds
 unfoldable pub wellFormed : Sheet → Bool
 wellFormed s = allOf (lengthRules s ++ entryRules s)
+
+-- what the filters need of a sheet
+pub record Formed (s : Sheet) : Type 0 where
+  pub windowed : length (s .window) ≡ s .head .«frame_size»
+  pub goertzelAlike : length (s .goertzelCoefficients) ≡ length (s .goertzelWeights)
+  pub constantQAlike : length (s .constantQLengths) ≡ length (s .constantQCoefficients)
+  pub goertzelFew : length (s .goertzelCoefficients) ≤ 256
+  pub constantQFew : length (s .constantQLengths) ≤ 256
+  pub joined : length (s .constantQWindows) ≡ joinedLength (s .constantQLengths) (length (s .constantQLengths))
+
+-- a well-formed sheet has it: the theorem that proofs/Formed.antt proves
+abbrev pub WellFormedSuffices : Type 0
+WellFormedSuffices = (s : Sheet) → s .head .«maximum_midi_note» < 256 → wellFormed s ≡ true → Formed s

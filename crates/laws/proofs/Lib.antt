@@ -19,3 +19,4 @@ pub mod Pick
 pub mod Parts
 pub mod Cuts
 pub mod Total
+pub mod Swap
