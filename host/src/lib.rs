@@ -8,4 +8,5 @@ pub mod card;
 pub mod key_name;
 pub mod probe;
 pub mod scores;
+pub mod sheet;
 pub mod written;

@@ -72,7 +72,7 @@ fn all_lengths(lengths: &[u32], rate: u32) -> bool
 }
 
 // How long the windows of all rows are together.
-fn joined_length(lengths: &[u32]) -> usize
+pub fn joined_length(lengths: &[u32]) -> usize
     requires { ⌜ length (now lengths) ≤ 256 ⌝ }
     ensures { λ r. ⌜ r ≡ joinedLength (now (lengths .entry)) (length (now (lengths .entry))) ⌝ }
 {

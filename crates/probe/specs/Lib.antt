@@ -1,2 +1,3 @@
+pub mod Filters
 pub mod Medians
 pub mod Packed

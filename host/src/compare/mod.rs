@@ -8,6 +8,10 @@ mod chroma_edges;
 mod chroma_leaves;
 mod chromas;
 mod edges;
+mod filters;
+mod filters_sheets;
+mod filters_tables;
+mod filters_tracks;
 mod format;
 mod groups;
 mod keys;
@@ -59,6 +63,7 @@ fn compare(given: &Options) -> ExitCode {
     medians::compare(&mut groups);
     packed::compare(&mut groups);
     cards::compare(&mut groups);
+    filters::compare(&mut groups);
     groups.close()
 }
 

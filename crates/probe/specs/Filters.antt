@@ -1,0 +1,31 @@
+-- What the probes of the filters answer: the chroma where the lists lent are as the filters need them, and zeros elsewhere. Definitions only.
+use Prim.Native.Nat.{ℕ, _+_}
+use mathlib.Core.Bool.{Bool, cond, _&&_}
+use mathlib.Core.List.{List}
+use lib.Dec.{leb, eqb}
+use lib.ListN.{length}
+use lib.Ieee.{Float}
+use Rattle.filters.specs.Sheet.{joinedLength}
+use Rattle.filters.specs.Classes.{noSums}
+use Rattle.filters.specs.Goertzel.{goertzelOf}
+use Rattle.filters.specs.ConstantQ.{constantQOf}
+
+-- so many values from a start on are there
+abbrev pub reachesTo : ℕ → ℕ → ℕ → Bool
+reachesTo start size samples = leb (start + size) samples
+
+-- two lists of rows are equally long, and no more than 256
+abbrev pub rowsFit : ℕ → ℕ → Bool
+rowsFit rows others = eqb rows others && leb rows 256
+
+-- the Goertzel chroma of a frame on the track
+abbrev pub probedGoertzel : ℕ → List Float → List Float → List Float → List Float → ℕ → List Float
+probedGoertzel lowest window coefficients weights samples start =
+    cond (reachesTo start (length window) (length samples) && rowsFit (length coefficients) (length weights)) (goertzelOf lowest window coefficients weights samples start) noSums
+
+-- the constant-Q chroma around a centre on the track
+abbrev pub probedConstantQ : ℕ → List ℕ → List Float → List Float → List Float → ℕ → List Float
+probedConstantQ lowest lengths coefficients windows samples centre =
+    cond (leb centre (length samples) && rowsFit (length lengths) (length coefficients))
+    (cond (eqb (joinedLength lengths (length lengths)) (length windows)) (constantQOf lowest lengths coefficients windows samples centre) noSums)
+    noSums
