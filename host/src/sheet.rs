@@ -1,4 +1,5 @@
 //! The table sheet, and the filters over it, exported for the comparison and the speed table.
+use crate::by_pointer::answer_of;
 use crate::scores::PITCH_CLASSES;
 
 type Chroma = [f32; PITCH_CLASSES];
@@ -42,12 +43,6 @@ pub struct Sheet {
     pub constant_q_windows: Vec<f32>,
 }
 
-/// A chroma as a call answers it.
-#[repr(C)]
-struct Twelve {
-    values: Chroma,
-}
-
 unsafe extern "C" {
     /// Whether a sheet was made for this call.
     pub safe fn probe_sheet_matches(settings: Settings, head: SheetHead) -> bool;
@@ -69,6 +64,7 @@ unsafe extern "C" {
     ) -> bool;
 
     fn probe_goertzel(
+        answer: *mut Chroma,
         lowest: u8,
         samples: *const f32,
         sample_count: usize,
@@ -79,9 +75,10 @@ unsafe extern "C" {
         coefficient_count: usize,
         weights: *const f32,
         weight_count: usize,
-    ) -> Twelve;
+    ) -> *mut Chroma;
 
     fn probe_constant_q(
+        answer: *mut Chroma,
         lowest: u8,
         samples: *const f32,
         sample_count: usize,
@@ -92,7 +89,7 @@ unsafe extern "C" {
         coefficient_count: usize,
         windows: *const f32,
         windows_count: usize,
-    ) -> Twelve;
+    ) -> *mut Chroma;
 }
 
 impl Sheet {
@@ -120,41 +117,45 @@ impl Sheet {
 
     /// The Goertzel chroma of the frame that starts at `start`; zeros where it is not on the track.
     pub fn goertzel(&self, samples: &[f32], start: usize) -> Chroma {
-        // SAFETY: each pointer and its count are one slice, which outlives the call.
+        // SAFETY: each pointer and its count are one slice, which outlives the call; the call writes its whole answer.
         unsafe {
-            probe_goertzel(
-                self.head.minimum_midi_note,
-                samples.as_ptr(),
-                samples.len(),
-                start,
-                self.window.as_ptr(),
-                self.window.len(),
-                self.goertzel_coefficients.as_ptr(),
-                self.goertzel_coefficients.len(),
-                self.goertzel_weights.as_ptr(),
-                self.goertzel_weights.len(),
-            )
+            answer_of(|answer| {
+                probe_goertzel(
+                    answer,
+                    self.head.minimum_midi_note,
+                    samples.as_ptr(),
+                    samples.len(),
+                    start,
+                    self.window.as_ptr(),
+                    self.window.len(),
+                    self.goertzel_coefficients.as_ptr(),
+                    self.goertzel_coefficients.len(),
+                    self.goertzel_weights.as_ptr(),
+                    self.goertzel_weights.len(),
+                )
+            })
         }
-        .values
     }
 
     /// The constant-Q chroma around a centre; zeros where it is not on the track.
     pub fn constant_q(&self, samples: &[f32], centre: usize) -> Chroma {
-        // SAFETY: each pointer and its count are one slice, which outlives the call.
+        // SAFETY: each pointer and its count are one slice, which outlives the call; the call writes its whole answer.
         unsafe {
-            probe_constant_q(
-                self.head.minimum_midi_note,
-                samples.as_ptr(),
-                samples.len(),
-                centre,
-                self.constant_q_lengths.as_ptr(),
-                self.constant_q_lengths.len(),
-                self.constant_q_coefficients.as_ptr(),
-                self.constant_q_coefficients.len(),
-                self.constant_q_windows.as_ptr(),
-                self.constant_q_windows.len(),
-            )
+            answer_of(|answer| {
+                probe_constant_q(
+                    answer,
+                    self.head.minimum_midi_note,
+                    samples.as_ptr(),
+                    samples.len(),
+                    centre,
+                    self.constant_q_lengths.as_ptr(),
+                    self.constant_q_lengths.len(),
+                    self.constant_q_coefficients.as_ptr(),
+                    self.constant_q_coefficients.len(),
+                    self.constant_q_windows.as_ptr(),
+                    self.constant_q_windows.len(),
+                )
+            })
         }
-        .values
     }
 }
