@@ -1,4 +1,3 @@
-pub mod Formed
 pub mod Rooms
 pub mod Spans
 pub mod Powers

@@ -6,7 +6,7 @@ use Prim.Native.Nat.{ℕ, zero, suc, _+_, _-_, _/_, _<_, _≤_, min}
 use native.Mathlib.Nat.{not-suc-le-zero, eq-or-lt-of-le, le-of-suc-le-suc}
 use native.Mathlib.Omega.{arith}
 use lib.ListN.{getD}
-use Rattle.filters.specs.Sheet.{joinedLength}
+use Rattle.sheets.specs.Sheet.{joinedLength}
 use Rattle.filters.specs.ConstantQ.{startOf, countOf, spanOf}
 
 cut : (start size samples : ℕ) → start ≤ samples → min size (samples - start) ≡ min (start + size) samples - start

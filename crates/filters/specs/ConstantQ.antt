@@ -11,7 +11,7 @@ use Rattle.laws.specs.Turns.{turns}
 use Rattle.laws.specs.Pick.{maximumNumber}
 use Rattle.laws.specs.Values.{plusZero}
 use Rattle.calls.specs.Call.{Call}
-use Rattle.filters.specs.Sheet.{joinedLength}
+use Rattle.sheets.specs.Sheet.{joinedLength}
 use Rattle.filters.specs.Resonator.{resonated}
 use Rattle.filters.specs.Classes.{noSums, classAdded}
 use Rattle.filters.specs.declared.resonator.Delay.{Delay}

@@ -23,13 +23,13 @@ abbrev pub rowAt : List Float → List Float → ℕ → GoertzelRow
 rowAt coefficients weights k = record { coefficient = getD coefficients k nan; weight = getD weights k nan }
 
 -- the square root of the power that a row's resonator ends with, or of 0 where that is below
-unfoldable pub magnitudeOf : List Float → ℕ → List Float → GoertzelRow → Float
-magnitudeOf samples start window row =
+unfoldable pub rowMagnitude : List Float → ℕ → List Float → GoertzelRow → Float
+rowMagnitude samples start window row =
     rootOf (maximumNumber (powerOf (row .coefficient) (resonated (row .coefficient) (frameValue samples start window) (length window))) plusZero)
 
 -- of all rows
 unfoldable pub magnitudesOf : List Float → ℕ → List Float → List Float → List Float → List Float
-magnitudesOf samples start window coefficients weights = list (λ (k : ℕ). magnitudeOf samples start window (rowAt coefficients weights k)) (length coefficients)
+magnitudesOf samples start window coefficients weights = list (λ (k : ℕ). rowMagnitude samples start window (rowAt coefficients weights k)) (length coefficients)
 
 -- the row of the note that lies so far above row k's, and at 255 at most
 abbrev pub harmonicRow : ℕ → ℕ → ℕ → ℕ

@@ -1,4 +1,3 @@
-pub mod Sheet
 pub mod Resonator
 pub mod Classes
 pub mod Goertzel

@@ -3,7 +3,7 @@ ghost use mathlib.Core.Path.{_≡_};
 ghost use Prim.Native.Nat.{_+_, _-_, _<_, _≤_, min};
 ghost use lib.ListN.{length};
 ghost use Rattle.laws.specs.Front.{front};
-ghost use Rattle.filters.specs.Sheet.{joinedLength};
+ghost use Rattle.sheets.specs.Sheet.{joinedLength};
 ghost use Rattle.filters.specs.Resonator.{resonated};
 ghost use Rattle.filters.specs.ConstantQ.{spanOf, cutValue, rowPower, powersOf, halfLeft, powersByClass, constantQOf};
 use crate::classes::class_at;

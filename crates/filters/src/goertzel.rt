@@ -4,7 +4,7 @@ ghost use Prim.Native.Nat.{_+_, _<_, _≤_};
 ghost use lib.ListN.{length};
 ghost use Rattle.laws.specs.Front.{front};
 ghost use Rattle.filters.specs.Resonator.{resonated};
-ghost use Rattle.filters.specs.Goertzel.{frameValue, rowAt, magnitudeOf, magnitudesOf, harmonicRow, harmonicAdded, contributionOf, contributionsByClass, goertzelOf};
+ghost use Rattle.filters.specs.Goertzel.{frameValue, rowAt, rowMagnitude, magnitudesOf, harmonicRow, harmonicAdded, contributionOf, contributionsByClass, goertzelOf};
 use crate::classes::class_at;
 use crate::classes::divide_by_weights;
 use crate::classes::sum_weights;
@@ -36,7 +36,7 @@ fn run_frame(samples: &[f32], start: usize, window: &[f32], coefficient: f32) ->
 // The magnitude of a row's note in the frame.
 fn row_magnitude(samples: &[f32], start: usize, window: &[f32], row: GoertzelRow) -> f32
     requires { ⌜ start + length (now window) ≤ length (now samples) ⌝ }
-    ensures { λ r. ⌜ r ≡ magnitudeOf (now (samples .entry)) start (now (window .entry)) row ⌝ }
+    ensures { λ r. ⌜ r ≡ rowMagnitude (now (samples .entry)) start (now (window .entry)) row ⌝ }
 {
     let delay = run_frame(samples, start, window, row.coefficient);
     square_root(larger(power(delay, row.coefficient), 0.0))

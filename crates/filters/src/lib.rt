@@ -1,7 +1,5 @@
-// Filters over a lent table sheet: whether the sheet may be used, and the chroma of a frame by
-// Goertzel and by constant-Q.
+// Filters over a lent table sheet: the chroma of a frame by Goertzel and by constant-Q.
 pub mod classes;
 pub mod constant_q;
 pub mod goertzel;
 pub mod resonator;
-pub mod sheet;

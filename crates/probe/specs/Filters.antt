@@ -5,7 +5,7 @@ use mathlib.Core.List.{List}
 use lib.Dec.{leb, eqb}
 use lib.ListN.{length}
 use lib.Ieee.{Float}
-use Rattle.filters.specs.Sheet.{joinedLength}
+use Rattle.sheets.specs.Sheet.{joinedLength}
 use Rattle.filters.specs.Classes.{noSums}
 use Rattle.filters.specs.Goertzel.{goertzelOf}
 use Rattle.filters.specs.ConstantQ.{constantQOf}

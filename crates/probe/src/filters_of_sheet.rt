@@ -1,20 +1,19 @@
 // The table sheet's checks, and the filters over its lists.
 ghost use mathlib.Core.Path.{_≡_};
 ghost use Rattle.calls.specs.Call.{lentSheet};
-ghost use Rattle.filters.specs.Sheet.{matchesCall, wellFormed};
+ghost use Rattle.sheets.specs.Sheet.{matchesCall, wellFormed};
 ghost use Rattle.probe.specs.Filters.{reachesTo, rowsFit, probedGoertzel, probedConstantQ};
 use crate::chroma_leaves::Twelve;
 use calls::Settings;
 use calls::SheetHead;
 use filters::constant_q::constant_q_chroma;
 use filters::goertzel::goertzel_chroma;
-use filters::sheet;
 
 #[no_mangle]
 pub extern "C" fn probe_sheet_matches(settings: Settings, head: SheetHead) -> bool
     ensures { λ r. ⌜ r ≡ matchesCall settings head ⌝ }
 {
-    sheet::matches(settings, head)
+    sheets::matches(settings, head)
 }
 
 #[no_mangle]
@@ -29,7 +28,7 @@ pub extern "C" fn probe_well_formed(
 ) -> bool
     ensures { λ r. ⌜ r ≡ wellFormed (lentSheet head (window .entry) (coefficients .entry) (weights .entry) (lengths .entry) (qcoefficients .entry) (qwindows .entry)) ⌝ }
 {
-    sheet::well_formed(
+    sheets::well_formed(
         head,
         window,
         coefficients,
@@ -92,7 +91,7 @@ pub extern "C" fn probe_constant_q(
     if !((centre <= samples.len()) & rows_fit(lengths.len(), coefficients.len())) {
         return Twelve { values: [0.0; 12] };
     }
-    if sheet::joined_length(lengths) != windows.len() {
+    if sheets::joined_length(lengths) != windows.len() {
         return Twelve { values: [0.0; 12] };
     }
     let values = constant_q_chroma(lowest, samples, centre, lengths, coefficients, windows);

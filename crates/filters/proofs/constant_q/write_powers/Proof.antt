@@ -10,7 +10,7 @@ use Rattle.laws.proofs.Front.{Filled, filled-start, filled-more, filled-to}
 use Rattle.filters.specs.ConstantQ.{powerAt, powersOf}
 use Rattle.filters.proofs.Spans.{joined-within}
 use native.Mathlib.Numerals.{add-one}
-use Rattle.filters.specs.Sheet.{joinedLength}
+use Rattle.sheets.specs.Sheet.{joinedLength}
 
 abbrev Inv-loop : tie.InvT-loop
 Inv-loop samples centre lengths coefficients windows room₀ first₀ k₀ room first k = (k ≤ length lengths) × (first ≡ joinedLength lengths k) × Filled (powerAt samples centre lengths coefficients windows) room₀ room k

@@ -7,13 +7,13 @@ use Prim.Native.Nat.{ℕ}
 use mathlib.Core.Path.{_≡_, refl, sym}
 use lib.ListN.{length}
 use lib.Ieee.{Float}
-use Rattle.filters.specs.Goertzel.{rowAt, magnitudeOf, magnitudesOf, goertzelOf}
+use Rattle.filters.specs.Goertzel.{rowAt, rowMagnitude, magnitudesOf, goertzelOf}
 use lib.ListN.{take}
 use Rattle.filters.proofs.Rooms.{read-back, read-long}
 
 -- the magnitude of row k
 abbrev magnitude : tie.Start → ℕ → Float
-magnitude s k = let a = s .args in magnitudeOf (a .samples .now) (a .start) (a .window .now) (rowAt (a .coefficients .now) (a .weights .now) k)
+magnitude s k = let a = s .args in rowMagnitude (a .samples .now) (a .start) (a .window .now) (rowAt (a .coefficients .now) (a .weights .now) k)
 
 -- the call's start, seen from where the room was written
 abbrev start : tie.After-write-magnitudes → tie.Start

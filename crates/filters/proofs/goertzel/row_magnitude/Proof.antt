@@ -4,7 +4,7 @@ use Rattle.filters.proofs.goertzel.row_magnitude.Statement.{statement}
 use Rattle.filters.proofs.goertzel.row_magnitude.Tie as tie
 use mathlib.Core.Path.{refl}
 use lib.Ieee.{ofBits}
-use Rattle.filters.specs.Goertzel.{magnitudeOf}
+use Rattle.filters.specs.Goertzel.{rowMagnitude}
 
 run-frame-requires : tie.Need-run-frame-requires
 run-frame-requires c κs = search needs
@@ -19,7 +19,7 @@ square-root-requires : tie.Need-square-root-requires
 square-root-requires c κs = search needs
 
 returns : tie.Need-returns
-unfolding magnitudeOf ofBits
+unfolding rowMagnitude ofBits
 returns c = rw (c .square-root .ensures, c .before .larger .ensures, c .before .before .power .ensures, c .before .before .before .run-frame .ensures) refl
 
 pub row-magnitude-spec : {M : Type 1} → statement M

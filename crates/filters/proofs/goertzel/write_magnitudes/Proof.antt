@@ -6,10 +6,10 @@ use native.Mathlib.Omega.{arith}
 use Prim.Native.Nat.{ℕ, _≤_, _-_}
 use lib.ListN.{length}
 use Rattle.laws.proofs.Front.{Filled, filled-start, filled-more, filled-to}
-use Rattle.filters.specs.Goertzel.{rowAt, magnitudeOf, magnitudesOf}
+use Rattle.filters.specs.Goertzel.{rowAt, rowMagnitude, magnitudesOf}
 
 abbrev Inv-loop : tie.InvT-loop
-Inv-loop samples start window coefficients weights room₀ k₀ room k = (k ≤ length coefficients) × Filled (λ (j : ℕ). magnitudeOf samples start window (rowAt coefficients weights j)) room₀ room k
+Inv-loop samples start window coefficients weights room₀ k₀ room k = (k ≤ length coefficients) × Filled (λ (j : ℕ). rowMagnitude samples start window (rowAt coefficients weights j)) room₀ room k
 
 abbrev μ-loop : tie.MeasureT-loop
 μ-loop samples start window coefficients weights room₀ k₀ room k = length coefficients - k

@@ -1,0 +1,2 @@
+-- What a well-formed sheet gives.
+pub mod Formed
