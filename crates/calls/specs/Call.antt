@@ -1,5 +1,5 @@
 -- What a call is given to read. Definitions only.
-use Prim.Native.Nat.{ℕ}
+use Prim.Native.Nat.{ℕ, _+_, _-_, _/_}
 use mathlib.Core.List.{List}
 use denote.Ref.{RefT, now}
 use lib.Ieee.{Float}
@@ -39,3 +39,7 @@ lentSheet head window coefficients weights lengths qCoefficients qWindows =
 abbrev pub given : Settings → SheetHead → RefT (List Float) → RefT (List Float) → RefT (List Float) → RefT (List Float) → RefT (List ℕ) → RefT (List Float) → RefT (List Float) → Call
 given settings head samples window coefficients weights lengths qCoefficients qWindows =
     record { settings = settings; samples = now samples; sheet = lentSheet head window coefficients weights lengths qCoefficients qWindows }
+
+-- how many frames a track of so many samples has: the last one starts at or before count - frame size
+abbrev pub positionsOf : Settings → ℕ → ℕ
+positionsOf s count = (count - s .«frame_size») / s .«hop_size» + 1
