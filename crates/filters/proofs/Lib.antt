@@ -1,3 +1,4 @@
 pub mod Rooms
 pub mod Spans
-pub mod Powers
+pub mod Squares
+pub mod Resonators

@@ -2,4 +2,7 @@
 pub mod classes;
 pub mod constant_q;
 pub mod goertzel;
+pub mod lanes;
+pub mod powers;
 pub mod resonator;
+pub mod span;

@@ -5,6 +5,13 @@ extern crate key_lime;
 #[cfg(oracle)]
 #[path = "../compare/chromas.rs"]
 mod chromas;
+#[cfg(oracle)]
+#[path = "../speed/filters.rs"]
+mod filters;
+#[cfg(oracle)]
+#[allow(dead_code)]
+#[path = "../compare/filters_tables.rs"]
+mod filters_tables;
 #[path = "../compare/random.rs"]
 mod random;
 
@@ -114,4 +121,6 @@ fn main() {
     median_row();
     #[cfg(oracle)]
     chroma_rows();
+    #[cfg(oracle)]
+    filters::print_rows();
 }

@@ -7,7 +7,8 @@ use Prim.Native.Nat.{ℕ}
 use mathlib.Core.Path.{_≡_, refl, sym}
 use lib.ListN.{length}
 use lib.Ieee.{Float}
-use Rattle.filters.specs.ConstantQ.{powerAt, powersOf, constantQOf}
+use Rattle.filters.specs.ConstantQ.{constantQOf}
+use Rattle.filters.specs.Powers.{powerAt, powersOf}
 use lib.ListN.{take}
 use Rattle.filters.proofs.Rooms.{read-back, read-long}
 

@@ -1,7 +1,7 @@
 -- Arithmetic.
 use borrow.Author.Needs.{needs}
-use Rattle.filters.proofs.constant_q.fewer.Statement.{statement}
-use Rattle.filters.proofs.constant_q.fewer.Tie as tie
+use Rattle.filters.proofs.span.fewer.Statement.{statement}
+use Rattle.filters.proofs.span.fewer.Tie as tie
 
 returns : tie.Need-returns
 returns c = search needs

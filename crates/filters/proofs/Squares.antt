@@ -1,9 +1,9 @@
--- The power of a resonator, whichever square is first.
+-- The power of a resonator, whichever square comes first.
 use mathlib.Core.Path.{_≡_, ap}
 use lib.Ieee.{Float, binary32, sub, mul}
 use Rattle.laws.proofs.Swap.{add-swap}
 use Rattle.filters.specs.Resonator.{powerOf}
-use Rattle.filters.specs.ConstantQ.{lastPower}
+use Rattle.filters.specs.Lanes.{lastPower}
 use Rattle.filters.specs.declared.resonator.Delay.{Delay}
 
 pub same-power : (coefficient : Float) (d : Delay) → powerOf coefficient d ≡ lastPower coefficient d

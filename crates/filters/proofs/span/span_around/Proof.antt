@@ -1,7 +1,7 @@
 -- What is left of the window is counted from its start.
 use borrow.Author.Needs.{needs}
-use Rattle.filters.proofs.constant_q.span_around.Statement.{statement}
-use Rattle.filters.proofs.constant_q.span_around.Tie as tie
+use Rattle.filters.proofs.span.span_around.Statement.{statement}
+use Rattle.filters.proofs.span.span_around.Tie as tie
 use Rattle.filters.proofs.Spans.{span-is}
 
 less-requires : tie.Need-less-requires

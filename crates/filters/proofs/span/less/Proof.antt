@@ -1,7 +1,7 @@
 -- Arithmetic.
 use borrow.Author.Needs.{needs}
-use Rattle.filters.proofs.constant_q.less.Statement.{statement}
-use Rattle.filters.proofs.constant_q.less.Tie as tie
+use Rattle.filters.proofs.span.less.Statement.{statement}
+use Rattle.filters.proofs.span.less.Tie as tie
 
 returns : tie.Need-returns
 returns c = search needs

@@ -1,9 +1,9 @@
 -- The definition, with the callee's count.
 use borrow.Author.Needs.{needs}
-use Rattle.filters.proofs.constant_q.half_is_left.Statement.{statement}
-use Rattle.filters.proofs.constant_q.half_is_left.Tie as tie
+use Rattle.filters.proofs.span.half_is_left.Statement.{statement}
+use Rattle.filters.proofs.span.half_is_left.Tie as tie
 use mathlib.Core.Path.{refl}
-use Rattle.filters.specs.ConstantQ.{halfLeft}
+use Rattle.filters.specs.Span.{halfLeft}
 
 span-around-requires : tie.Need-span-around-requires
 span-around-requires c κs = search needs
