@@ -1,4 +1,1 @@
 pub mod Rooms
-pub mod Spans
-pub mod Squares
-pub mod Resonators

@@ -1,8 +1,3 @@
-// Filters over a lent table sheet: the chroma of a frame by Goertzel and by constant-Q.
+// Filters over a lent table sheet: one resonator, and sums by pitch class.
 pub mod classes;
-pub mod constant_q;
-pub mod goertzel;
-pub mod lanes;
-pub mod powers;
 pub mod resonator;
-pub mod span;

@@ -7,8 +7,8 @@ use lib.ListN.{length}
 use lib.Ieee.{Float}
 use Rattle.sheets.specs.Sheet.{joinedLength}
 use Rattle.filters.specs.Classes.{noSums}
-use Rattle.filters.specs.Goertzel.{goertzelOf}
-use Rattle.filters.specs.ConstantQ.{constantQOf}
+use Rattle.goertzel.specs.Goertzel.{goertzelOf}
+use Rattle.constant_q.specs.ConstantQ.{constantQOf}
 
 -- so many values from a start on are there
 abbrev pub reachesTo : ℕ → ℕ → ℕ → Bool

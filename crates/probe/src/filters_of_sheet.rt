@@ -6,8 +6,8 @@ ghost use Rattle.probe.specs.Filters.{reachesTo, rowsFit, probedGoertzel
 use crate::chroma_leaves::Twelve;
 use calls::Settings;
 use calls::SheetHead;
-use filters::constant_q::constant_q_chroma;
-use filters::goertzel::goertzel_chroma;
+use constant_q::chroma::constant_q_chroma;
+use goertzel::goertzel_chroma;
 
 #[no_mangle]
 pub extern "C" fn probe_sheet_matches(settings: Settings, head: SheetHead) -> bool

@@ -1,0 +1,83 @@
+-- Rows around a centre, each with the samples and the window values that go through its resonator, written from the Rust's `CqtTable::chroma_at`.
+-- Definitions only.
+use Prim.Native.Nat.{ℕ, _+_, _<_, _≤_, min}
+use mathlib.Core.List.{List}
+use lib.IntN.{pos}
+use lib.ListN.{getD}
+use lib.Ieee.{Float, nan, binary32, ofInt, add, sub, mul, div}
+use Rattle.laws.specs.Pick.{maximumNumber}
+use Rattle.laws.specs.Values.{plusZero}
+use Rattle.filters.specs.Resonator.{steppedOf, resonated}
+use Rattle.filters.specs.declared.resonator.Delay.{Delay}
+use Rattle.constant_q.specs.declared.lanes.Lane.{Lane}
+use Rattle.constant_q.specs.declared.lanes.Lanes.{Lanes}
+use Rattle.constant_q.specs.declared.lanes.Delays.{Delays}
+use Rattle.constant_q.specs.declared.lanes.Powers.{Powers}
+
+-- value i of a lane: a sample times its window value, whatever the sample is
+abbrev pub laneValue : List Float → List Float → Lane → ℕ → Float
+laneValue samples windows lane i = mul binary32 (getD samples (lane .start + i) nan) (getD windows (lane .first + i) nan)
+
+-- its resonator after n values
+abbrev pub laneDelay : List Float → List Float → Lane → ℕ → Delay
+laneDelay samples windows lane n = resonated (lane .coefficient) (laneValue samples windows lane) n
+
+-- last * last + before * before - coefficient * last * before
+unfoldable pub lastPower : Float → Delay → Float
+lastPower coefficient d =
+    sub binary32 (add binary32 (mul binary32 (d .last) (d .last)) (mul binary32 (d .before) (d .before))) (mul binary32 (mul binary32 coefficient (d .last)) (d .before))
+
+-- a power over the square of the count, or 0 where that is below
+unfoldable pub perCount : ℕ → Float → Float
+perCount count x = maximumNumber (div binary32 x (mul binary32 (ofInt binary32 (pos count)) (ofInt binary32 (pos count)))) plusZero
+
+-- the power of a lane
+unfoldable pub lanePower : List Float → List Float → Lane → Float
+lanePower samples windows lane = perCount (lane .count) (lastPower (lane .coefficient) (laneDelay samples windows lane (lane .count)))
+
+-- the lane lies on a track of so many samples and within so many window values, and is no longer than a number of 32 bits says
+pub record Lies (samples windows : ℕ) (lane : Lane) : Type 0 where
+  pub onTrack : lane .start + lane .count ≤ samples
+  pub inWindows : lane .first + lane .count ≤ windows
+  pub short : lane .count < 0x1_0000_0000
+
+-- so do four
+pub record FourLie (samples windows : ℕ) (lanes : Lanes) : Type 0 where
+  pub a : Lies samples windows (lanes .a)
+  pub b : Lies samples windows (lanes .b)
+  pub c : Lies samples windows (lanes .c)
+  pub d : Lies samples windows (lanes .d)
+
+-- the count that all four reach
+abbrev pub fewestOf : Lanes → ℕ
+fewestOf lanes = min (min (lanes .a .count) (lanes .b .count)) (min (lanes .c .count) (lanes .d .count))
+
+-- four resonators after value i of each lane
+unfoldable pub steppedFour : List Float → List Float → Lanes → ℕ → Delays → Delays
+steppedFour samples windows lanes i delays =
+    record {
+      a = steppedOf (lanes .a .coefficient) (laneValue samples windows (lanes .a) i) (delays .a);
+      b = steppedOf (lanes .b .coefficient) (laneValue samples windows (lanes .b) i) (delays .b);
+      c = steppedOf (lanes .c .coefficient) (laneValue samples windows (lanes .c) i) (delays .c);
+      d = steppedOf (lanes .d .coefficient) (laneValue samples windows (lanes .d) i) (delays .d);
+    }
+
+-- each of four resonators alone, after n values
+unfoldable pub fourDelays : List Float → List Float → Lanes → ℕ → Delays
+fourDelays samples windows lanes n =
+    record {
+      a = laneDelay samples windows (lanes .a) n;
+      b = laneDelay samples windows (lanes .b) n;
+      c = laneDelay samples windows (lanes .c) n;
+      d = laneDelay samples windows (lanes .d) n;
+    }
+
+-- the power of each of four lanes alone
+unfoldable pub fourPowers : List Float → List Float → Lanes → Powers
+fourPowers samples windows lanes =
+    record {
+      a = lanePower samples windows (lanes .a);
+      b = lanePower samples windows (lanes .b);
+      c = lanePower samples windows (lanes .c);
+      d = lanePower samples windows (lanes .d);
+    }

@@ -1,0 +1,4 @@
+pub mod Span
+pub mod Lanes
+pub mod Powers
+pub mod ConstantQ

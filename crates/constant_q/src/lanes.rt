@@ -1,0 +1,158 @@
+// Rows around a centre, each with the samples and the window values that go through its resonator:
+// one by itself, or four side by side.
+ghost use mathlib.Core.Path.{_≡_};
+ghost use Prim.Native.Nat.{_<_, _≤_};
+ghost use lib.ListN.{length};
+ghost use Rattle.filters.specs.Resonator.{steppedOf};
+ghost use Rattle.constant_q.specs.Lanes.{Lies, FourLie, laneValue, laneDelay, perCount, lastPower, lanePower, steppedFour, fewestOf, fourDelays, fourPowers};
+use crate::span::fewer;
+use filters::resonator::Delay;
+use filters::resonator::power;
+use filters::resonator::step;
+use numbers::single::larger;
+
+// Where a row's samples and window values begin, how many there are, and how its resonator is tuned.
+pub struct Lane {
+    pub start: usize,
+    pub first: usize,
+    pub count: usize,
+    pub coefficient: f32,
+}
+
+// Four rows.
+pub struct Lanes {
+    pub a: Lane,
+    pub b: Lane,
+    pub c: Lane,
+    pub d: Lane,
+}
+
+// The delayed values of four resonators.
+pub struct Delays {
+    pub a: Delay,
+    pub b: Delay,
+    pub c: Delay,
+    pub d: Delay,
+}
+
+// The powers of four rows.
+pub struct Powers {
+    pub a: f32,
+    pub b: f32,
+    pub c: f32,
+    pub d: f32,
+}
+
+// A lane's resonator after its value i.
+fn step_lane(samples: &[f32], windows: &[f32], lane: Lane, i: usize, delay: Delay) -> Delay
+    requires { ⌜ Lies (length (now samples)) (length (now windows)) lane × (i < lane .count) ⌝ }
+    ensures { λ r. ⌜ r ≡ steppedOf (lane .coefficient) (laneValue (now (samples .entry)) (now (windows .entry)) lane i) delay ⌝ }
+{
+    let x = samples[lane.start + i] * windows[lane.first + i];
+    step(delay, lane.coefficient, x)
+}
+
+// The rest of a lane, from a value on.
+fn run_lane(samples: &[f32], windows: &[f32], lane: Lane, from: usize, delay: Delay) -> Delay
+    requires { ⌜ Lies (length (now samples)) (length (now windows)) lane × (from ≤ lane .count) × (delay ≡ laneDelay (now samples) (now windows) lane from) ⌝ }
+    ensures { λ r. ⌜ r ≡ laneDelay (now (samples .entry)) (now (windows .entry)) lane (lane .count) ⌝ }
+{
+    let count = lane.count;
+    let mut state = delay;
+    let mut i = from;
+    while i < count {
+        state = step_lane(samples, windows, lane, i, state);
+        i += 1;
+    }
+    state
+}
+
+// What a resonator's delayed values make of its lane: power over the square of the count.
+fn power_per_count(lane: Lane, delay: Delay) -> f32
+    requires { ⌜ lane .count < 0x1_0000_0000 ⌝ }
+    ensures { λ r. ⌜ r ≡ perCount (lane .count) (lastPower (lane .coefficient) delay) ⌝ }
+{
+    let n = std::num::nearest_u32_to_f32(lane.count as u32);
+    larger(power(delay, lane.coefficient) / (n * n), 0.0)
+}
+
+// The power of a lane of which the values before `from` have gone through.
+fn finish_lane(samples: &[f32], windows: &[f32], lane: Lane, from: usize, delay: Delay) -> f32
+    requires { ⌜ Lies (length (now samples)) (length (now windows)) lane × (from ≤ lane .count) × (delay ≡ laneDelay (now samples) (now windows) lane from) ⌝ }
+    ensures { λ r. ⌜ r ≡ lanePower (now (samples .entry)) (now (windows .entry)) lane ⌝ }
+{
+    let last = run_lane(samples, windows, lane, from, delay);
+    power_per_count(lane, last)
+}
+
+// The power of a lane.
+pub fn lane_power(samples: &[f32], windows: &[f32], lane: Lane) -> f32
+    requires { ⌜ Lies (length (now samples)) (length (now windows)) lane ⌝ }
+    ensures { λ r. ⌜ r ≡ lanePower (now (samples .entry)) (now (windows .entry)) lane ⌝ }
+{
+    let rest = Delay {
+        last: 0.0,
+        before: 0.0,
+    };
+    finish_lane(samples, windows, lane, 0, rest)
+}
+
+// Four resonators after value i of each lane.
+fn step_four(samples: &[f32], windows: &[f32], lanes: Lanes, i: usize, delays: Delays) -> Delays
+    requires { ⌜ FourLie (length (now samples)) (length (now windows)) lanes × (i < fewestOf lanes) ⌝ }
+    ensures { λ r. ⌜ r ≡ steppedFour (now (samples .entry)) (now (windows .entry)) lanes i delays ⌝ }
+{
+    let a = step_lane(samples, windows, lanes.a, i, delays.a);
+    let b = step_lane(samples, windows, lanes.b, i, delays.b);
+    let c = step_lane(samples, windows, lanes.c, i, delays.c);
+    let d = step_lane(samples, windows, lanes.d, i, delays.d);
+    Delays { a, b, c, d }
+}
+
+// The first n values of four lanes, side by side.
+fn run_four(samples: &[f32], windows: &[f32], lanes: Lanes, n: usize) -> Delays
+    requires { ⌜ FourLie (length (now samples)) (length (now windows)) lanes × (n ≤ fewestOf lanes) ⌝ }
+    ensures { λ r. ⌜ r ≡ fourDelays (now (samples .entry)) (now (windows .entry)) lanes n ⌝ }
+{
+    let rest = Delay {
+        last: 0.0,
+        before: 0.0,
+    };
+    let mut delays = Delays {
+        a: rest,
+        b: rest,
+        c: rest,
+        d: rest,
+    };
+    let mut i = 0;
+    while i < n {
+        delays = step_four(samples, windows, lanes, i, delays);
+        i += 1;
+    }
+    delays
+}
+
+// The count that all four lanes reach.
+fn fewest(lanes: Lanes) -> usize
+    ensures { λ r. ⌜ r ≡ fewestOf lanes ⌝ }
+{
+    let a = lanes.a;
+    let b = lanes.b;
+    let c = lanes.c;
+    let d = lanes.d;
+    fewer(fewer(a.count, b.count), fewer(c.count, d.count))
+}
+
+// The powers of four lanes: side by side as far as all reach, then each by itself.
+pub fn four_powers(samples: &[f32], windows: &[f32], lanes: Lanes) -> Powers
+    requires { ⌜ FourLie (length (now samples)) (length (now windows)) lanes ⌝ }
+    ensures { λ r. ⌜ r ≡ fourPowers (now (samples .entry)) (now (windows .entry)) lanes ⌝ }
+{
+    let n = fewest(lanes);
+    let delays = run_four(samples, windows, lanes, n);
+    let a = finish_lane(samples, windows, lanes.a, n, delays.a);
+    let b = finish_lane(samples, windows, lanes.b, n, delays.b);
+    let c = finish_lane(samples, windows, lanes.c, n, delays.c);
+    let d = finish_lane(samples, windows, lanes.d, n, delays.d);
+    Powers { a, b, c, d }
+}

@@ -1,0 +1,28 @@
+-- The callees' definitions, put together.
+use borrow.Author.Needs.{needs}
+use Rattle.goertzel.proofs.row_magnitude.Statement.{statement}
+use Rattle.goertzel.proofs.row_magnitude.Tie as tie
+use mathlib.Core.Path.{refl}
+use lib.Ieee.{ofBits}
+use Rattle.goertzel.specs.Goertzel.{rowMagnitude}
+
+run-frame-requires : tie.Need-run-frame-requires
+run-frame-requires c κs = search needs
+
+power-requires : tie.Need-power-requires
+power-requires c κs = search needs
+
+larger-requires : tie.Need-larger-requires
+larger-requires c κs = search needs
+
+square-root-requires : tie.Need-square-root-requires
+square-root-requires c κs = search needs
+
+returns : tie.Need-returns
+unfolding rowMagnitude ofBits
+returns c = rw (c .square-root .ensures, c .before .larger .ensures, c .before .before .power .ensures, c .before .before .before .run-frame .ensures) refl
+
+pub row-magnitude-spec : {M : Type 1} → statement M
+row-magnitude-spec =
+    tie.close
+    (tie.spec run-frame-requires power-requires larger-requires square-root-requires returns)

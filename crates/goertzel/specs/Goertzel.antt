@@ -1,0 +1,62 @@
+-- The Goertzel chroma of a frame, written from the Rust's `GoertzelTable` and `accumulate_chroma_windowed`. Definitions only.
+use Prim.Native.Nat.{ℕ, _+_, _-_, min}
+use mathlib.Core.Bool.{cond}
+use mathlib.Core.List.{List}
+use lib.Dec.{ltb}
+use lib.ListN.{length, getD}
+use lib.Ieee.{Float, nan, binary32, ofBits, add, mul}
+use Rattle.laws.specs.Front.{list}
+use Rattle.laws.specs.Pick.{maximumNumber}
+use Rattle.laws.specs.Values.{plusZero}
+use Rattle.numbers.specs.Root.{rootOf}
+use Rattle.calls.specs.Call.{Call}
+use Rattle.filters.specs.Resonator.{windowedOf, resonated, powerOf}
+use Rattle.filters.specs.Classes.{addedByClass, weightsByClass, dividedByClass}
+use Rattle.filters.specs.declared.resonator.GoertzelRow.{GoertzelRow}
+
+-- value i of the frame that starts at start
+abbrev pub frameValue : List Float → ℕ → List Float → ℕ → Float
+frameValue samples start window i = windowedOf (getD samples (start + i) nan) (getD window i nan)
+
+-- the sheet's row for the lowest note plus k
+abbrev pub rowAt : List Float → List Float → ℕ → GoertzelRow
+rowAt coefficients weights k = record { coefficient = getD coefficients k nan; weight = getD weights k nan }
+
+-- the square root of the power that a row's resonator ends with, or of 0 where that is below
+unfoldable pub rowMagnitude : List Float → ℕ → List Float → GoertzelRow → Float
+rowMagnitude samples start window row =
+    rootOf (maximumNumber (powerOf (row .coefficient) (resonated (row .coefficient) (frameValue samples start window) (length window))) plusZero)
+
+-- of all rows
+unfoldable pub magnitudesOf : List Float → ℕ → List Float → List Float → List Float → List Float
+magnitudesOf samples start window coefficients weights = list (λ (k : ℕ). rowMagnitude samples start window (rowAt coefficients weights k)) (length coefficients)
+
+-- the row of the note that lies so far above row k's, and at 255 at most
+abbrev pub harmonicRow : ℕ → ℕ → ℕ → ℕ
+harmonicRow lowest k up = min (lowest + k + up) 255 - lowest
+
+-- that row's magnitude times a factor more, where there is such a row
+unfoldable pub harmonicAdded : List Float → ℕ → ℕ → ℕ → Float → Float → Float
+harmonicAdded magnitudes lowest k up factor sum =
+    cond (ltb (harmonicRow lowest k up) (length magnitudes)) (add binary32 sum (mul binary32 (getD magnitudes (harmonicRow lowest k up) nan) factor)) sum
+
+-- row k's magnitude and its harmonics' 12, 19 and 24 notes up, by 0.50, 0.33 and 0.25
+unfoldable pub contributionOf : List Float → ℕ → ℕ → Float
+contributionOf magnitudes lowest k =
+    let second = harmonicAdded magnitudes lowest k 12 (ofBits binary32 0x3f00_0000) (getD magnitudes k nan) in
+    let third = harmonicAdded magnitudes lowest k 19 (ofBits binary32 0x3ea8_f5c3) second in
+    harmonicAdded magnitudes lowest k 24 (ofBits binary32 0x3e80_0000) third
+
+-- each row's contribution times its weight, by class
+unfoldable pub contributionsByClass : ℕ → List Float → List Float → List Float → List Float
+contributionsByClass lowest magnitudes coefficients weights =
+    addedByClass lowest (λ (k : ℕ). mul binary32 (contributionOf magnitudes lowest k) (rowAt coefficients weights k .weight)) (length magnitudes)
+
+-- the chroma: each class's contributions over its weights
+unfoldable pub goertzelOf : ℕ → List Float → List Float → List Float → List Float → ℕ → List Float
+goertzelOf lowest window coefficients weights samples start =
+    dividedByClass (contributionsByClass lowest (magnitudesOf samples start window coefficients weights) coefficients weights) (weightsByClass lowest weights)
+
+-- the same, of a call
+abbrev pub goertzelAt : Call → ℕ → List Float
+goertzelAt c start = let s = c .sheet in goertzelOf (s .head .«minimum_midi_note») (s .window) (s .goertzelCoefficients) (s .goertzelWeights) (c .samples) start
