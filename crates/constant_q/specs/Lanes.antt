@@ -27,7 +27,7 @@ unfoldable pub lastPower : Float → Delay → Float
 lastPower coefficient d =
     sub binary32 (add binary32 (mul binary32 (d .last) (d .last)) (mul binary32 (d .before) (d .before))) (mul binary32 (mul binary32 coefficient (d .last)) (d .before))
 
--- a power over the square of the count, or 0 where that is below
+-- a power over the square of the count; what is below 0 and a NaN count as 0
 unfoldable pub perCount : ℕ → Float → Float
 perCount count x = maximumNumber (div binary32 x (mul binary32 (ofInt binary32 (pos count)) (ofInt binary32 (pos count)))) plusZero
 

@@ -22,7 +22,7 @@ frameValue samples start window i = windowedOf (getD samples (start + i) nan) (g
 abbrev pub rowAt : List Float → List Float → ℕ → GoertzelRow
 rowAt coefficients weights k = record { coefficient = getD coefficients k nan; weight = getD weights k nan }
 
--- the square root of the power that a row's resonator ends with, or of 0 where that is below
+-- the square root of the power that a row's resonator ends with; a power below 0 and a NaN count as 0
 unfoldable pub rowMagnitude : List Float → ℕ → List Float → GoertzelRow → Float
 rowMagnitude samples start window row =
     rootOf (maximumNumber (powerOf (row .coefficient) (resonated (row .coefficient) (frameValue samples start window) (length window))) plusZero)

@@ -1,0 +1,129 @@
+-- Laws of the run over frame positions, which the proof of `fill_rows` cites, a law for each way out of a turn.
+use Prim.Native.Nat.{ℕ, _+_, _-_, _*_, _/_, _<_, _≤_}
+use mathlib.Core.Path.{_≡_, refl, sym, ap, subst, _∙_}
+use mathlib.Core.Bool.{Bool, true, false, cond}
+use mathlib.Core.List.{[], _∷_, _++_}
+use native.Mathlib.Nat.{mul-le-mul-right, div-mul-le-self, le-trans}
+use native.Mathlib.Numerals.{add-one}
+use native.Mathlib.Omega.{arith}
+use borrow.Author.Tests.{lt-ltb, le-ltb}
+use lib.Dec.{ltb}
+use lib.ListN.{length, length-append}
+use lib.Ieee.{Float}
+use Rattle.laws.specs.First.{first}
+use Rattle.laws.proofs.First.{first-start, first-again, first-out, first-end}
+use Rattle.laws.proofs.Column.{Column, column-start, column-more}
+use Rattle.calls.specs.Call.{Call}
+use Rattle.calls.specs.Rows.{Rows, rows}
+use Rattle.frames.specs.Frame.{loud, rowOf, whole}
+use Rattle.frames.specs.Run.{energyAt, frameRow, notFiniteAt, loudBefore, put, holding, ran, runTo, runOf, Ready}
+use Rattle.frames.specs.declared.frame.Row.{Row}
+use Rattle.frames.specs.declared.run.Filled.{Filled}
+use Rattle.frames.specs.declared.run.Filled.the-variants.{All, NotFinite}
+
+-- a frame position's samples are there
+pub frame-fits : {c : Call} {before : Rows} {positions : ℕ} (k : ℕ) → Ready c before positions → k < positions → k * c .settings .«hop_size» + c .settings .«frame_size» ≤ length (c .samples)
+frame-fits {c} k ready h =
+    let hop = c .settings .«hop_size» in
+    let spare = length (c .samples) - c .settings .«frame_size» in
+    let at-most : k ≤ spare / hop = omega (arith, ready .many) in
+    let fits : k * hop ≤ spare = le-trans (mul-le-mul-right hop at-most) (div-mul-le-self spare hop) in
+    omega (arith, ready .enough)
+
+same-rows : {a b : Rows} → a .centres ≡ b .centres → a .values ≡ b .values → a .energies ≡ b .energies → a ≡ b
+same-rows p q r = λ i. rows (p i) (q i) (r i)
+
+-- The run has come to position k: the n rows found so far stand in the lent rows, and no earlier position is broken.
+pub record Reached (c : Call) (positions : ℕ) (before now : Rows) (k n : ℕ) : Type 0 where
+  pub ready : Ready c before positions
+  pub count : n ≡ length (loudBefore c k)
+  pub few : n ≤ k
+  pub upto : k ≤ positions
+  pub ahead : first (notFiniteAt c) (positions - k) k ≡ first (notFiniteAt c) positions 0
+  pub centres : Column (λ (r : Row). r .centre) (loudBefore c k) (before .centres) (now .centres)
+  pub values : Column (λ (r : Row). r .values) (loudBefore c k) (before .values) (now .values)
+  pub energies : Column (λ (r : Row). r .energy) (loudBefore c k) (before .energies) (now .energies)
+
+pub reached-start : {c : Call} {positions : ℕ} {before : Rows} → Ready c before positions → Reached c positions before before 0 0
+unfolding loudBefore
+reached-start {c} {positions} {before} ready =
+    record {
+      ready = ready;
+      count = refl;
+      few = omega arith;
+      upto = omega arith;
+      ahead = first-start (notFiniteAt c) positions;
+      centres = column-start _ _;
+      values = column-start _ _;
+      energies = column-start _ _;
+    }
+
+-- the rows found before the next position, of a quiet frame and of a loud one
+after-quiet : (c : Call) (k : ℕ) → loud (energyAt c k) ≡ false → loudBefore c (k + 1) ≡ loudBefore c k
+unfolding loudBefore
+after-quiet c k q = rw (add-one, loudBefore, q)
+
+after-loud : (c : Call) (k : ℕ) → loud (energyAt c k) ≡ true → loudBefore c (k + 1) ≡ loudBefore c k ++ (frameRow c k ∷ [])
+unfolding loudBefore
+after-loud c k l = rw (add-one, loudBefore, l)
+
+module _ {c : Call} {positions : ℕ} {before now : Rows} {k n : ℕ} (reached : Reached c positions before now k n) where
+  -- what the calls of a turn tell: whether the frame is loud, and whether its row is whole
+  pub heard : {energy : Float} {flag answer : Bool} → energy ≡ energyAt c k → flag ≡ loud energy → flag ≡ answer → loud (energyAt c k) ≡ answer
+  heard e f t = sym (ap loud e) ∙ sym f ∙ t
+
+  pub row-is : {energy : Float} {row : Row} → energy ≡ energyAt c k → row ≡ rowOf c (k * c .settings .«hop_size») energy → row ≡ frameRow c k
+  unfolding frameRow
+  row-is e r = r ∙ ap (rowOf c (k * c .settings .«hop_size»)) e
+
+  pub judged : {row : Row} {flag answer : Bool} → row ≡ frameRow c k → flag ≡ whole row → flag ≡ answer → whole (frameRow c k) ≡ answer
+  judged e f t = sym (ap whole e) ∙ sym f ∙ t
+
+  pub reached-quiet : k < positions → loud (energyAt c k) ≡ false → Reached c positions before now (k + 1) n
+  unfolding notFiniteAt
+  reached-quiet h q =
+      let e = after-quiet c k q in
+      record {
+        ready = reached .ready;
+        count = reached .count ∙ ap length (sym e);
+        few = omega arith;
+        upto = omega arith;
+        ahead = first-again (notFiniteAt c) positions k (reached .ahead) h (rw q);
+        centres = rw e (reached .centres);
+        values = rw e (reached .values);
+        energies = rw e (reached .energies);
+      }
+
+  one-more : k < positions → loud (energyAt c k) ≡ true → whole (frameRow c k) ≡ true → Reached c positions before (put (frameRow c k) n now) (k + 1) (n + 1)
+  unfolding notFiniteAt
+  one-more h l w =
+      let e = after-loud c k l in
+      record {
+        ready = reached .ready;
+        count = rw e (simp length-append (omega (arith, reached .count)));
+        few = omega arith;
+        upto = omega arith;
+        ahead = first-again (notFiniteAt c) positions k (reached .ahead) h (rw (l, w));
+        centres = rw e (column-more _ _ (frameRow c k) n (reached .count) (omega (arith, reached .ready .centres)) (reached .centres));
+        values = rw e (column-more _ _ (frameRow c k) n (reached .count) (omega (arith, reached .ready .values)) (reached .values));
+        energies = rw e (column-more _ _ (frameRow c k) n (reached .count) (omega (arith, reached .ready .energies)) (reached .energies));
+      }
+
+  pub reached-loud : {row : Row} {after : Rows} → row ≡ frameRow c k → after ≡ put row n now → k < positions → loud (energyAt c k) ≡ true → whole (frameRow c k) ≡ true → Reached c positions before after (k + 1) (n + 1)
+  reached-loud e a h l w = subst (λ (x : Rows). Reached c positions before x (k + 1) (n + 1)) (sym (a ∙ ap (λ (r : Row). put r n now) e)) (one-more h l w)
+
+  -- what is left where the run ends at k
+  left-at : (passed : Bool) → ltb k positions ≡ passed → k ≡ first (notFiniteAt c) positions 0 → ran (cond passed (NotFinite k n) (All n)) now ≡ runOf c positions before
+  unfolding runOf
+  left-at passed t e =
+      let found = loudBefore c k in
+      let answer : cond passed (NotFinite k n) (All n) ≡ cond (ltb k positions) (NotFinite k (length found)) (All (length found)) = cc in
+      let left : now ≡ holding found before = same-rows (reached .centres .here) (reached .values .here) (reached .energies .here) in
+      ap (λ (a : Filled). ran a now) answer ∙ ap (ran _) left ∙ ap (λ (j : ℕ). runTo c positions j before) e
+
+  pub reached-broken : k < positions → loud (energyAt c k) ≡ true → whole (frameRow c k) ≡ false → ran (NotFinite k n) now ≡ runOf c positions before
+  unfolding notFiniteAt
+  reached-broken h l w = left-at true (lt-ltb _ _ h) (first-out (notFiniteAt c) positions k (reached .ahead) h (rw (l, w)))
+
+  pub reached-end : positions ≤ k → ran (All n) now ≡ runOf c positions before
+  reached-end h = left-at false (le-ltb _ _ h) (first-end (notFiniteAt c) positions k (reached .ahead) h)

@@ -1,0 +1,26 @@
+-- One chroma of two, written from the Rust's `frame_chroma_sequence`. Definitions only.
+use Prim.Native.Nat.{ℕ}
+use mathlib.Core.Bool.{cond}
+use mathlib.Core.List.{List}
+use lib.ListN.{getD}
+use lib.Ieee.{Float, nan, binary32, ofBits, add, mul, lt}
+use Rattle.laws.specs.Front.{list}
+use Rattle.laws.specs.Values.{epsilon}
+use Rattle.numbers.specs.Sum.{sumOf}
+use Rattle.chroma.specs.Levels.{whitenedOf, normalizedOf}
+
+-- whitened and normalised
+unfoldable pub levelled : List Float → List Float
+levelled chroma = normalizedOf (whitenedOf chroma)
+
+-- 0.5
+abbrev pub aHalf : Float
+aHalf = ofBits binary32 0x3f00_0000
+
+-- half of each
+unfoldable pub halvesOf : List Float → List Float → List Float
+halvesOf a b = list (λ (i : ℕ). add binary32 (mul binary32 aHalf (getD a i nan)) (mul binary32 aHalf (getD b i nan))) 12
+
+-- the first levelled; where the second sums to more than epsilon, half of each levelled, normalised
+unfoldable pub blendOf : List Float → List Float → List Float
+blendOf goertzel constant = cond (lt epsilon (sumOf 12 constant)) (normalizedOf (halvesOf (levelled goertzel) (levelled constant))) (levelled goertzel)

@@ -1,0 +1,3 @@
+pub mod Blend
+pub mod Frame
+pub mod Run
