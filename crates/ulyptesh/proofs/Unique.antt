@@ -3,6 +3,7 @@ use mathlib.Core.Path.{sym, _∙_}
 use Rattle.ulyptesh.specs.FromChroma.{ScoresUnique, KeyUnique}
 use Rattle.ulyptesh.specs.KeyNames.{KeyNameUnique}
 use Rattle.ulyptesh.specs.Cards.{CardUnique}
+use Rattle.ulyptesh.specs.FramesOnly.{FramesUnique}
 
 pub scores-unique : ScoresUnique
 scores-unique chroma places a b p q = p ∙ sym q
@@ -15,3 +16,6 @@ key-name-unique number bytes a b p q = p ∙ sym q
 
 pub card-unique : CardUnique
 card-unique analysis bytes a b p q = p ∙ sym q
+
+pub frames-unique : FramesUnique
+frames-unique c lent a b p q = p ∙ sym q

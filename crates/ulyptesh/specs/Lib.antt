@@ -2,3 +2,4 @@ pub mod FromChroma
 pub mod Written
 pub mod KeyNames
 pub mod Cards
+pub mod FramesOnly
