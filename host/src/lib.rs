@@ -5,6 +5,7 @@
 
 mod by_pointer;
 pub mod card;
+pub mod frames;
 pub mod key_name;
 pub mod probe;
 pub mod scores;

@@ -13,6 +13,8 @@ mod filters_sheets;
 mod filters_tables;
 mod filters_tracks;
 mod format;
+mod frame_calls;
+mod frames;
 mod groups;
 mod keys;
 mod medians;
@@ -64,6 +66,7 @@ fn compare(given: &Options) -> ExitCode {
     packed::compare(&mut groups);
     cards::compare(&mut groups);
     filters::compare(&mut groups);
+    frames::compare(&mut groups);
     groups.close()
 }
 

@@ -1,0 +1,208 @@
+//! Frames only, beside the oracle's `frame_chroma_sequence`: every row that is written and every one that stays.
+use super::filters_tables::Tables;
+use super::filters_tracks::KINDS;
+use super::frame_calls::{Asked, BREACHES};
+use super::groups::{Compared, Groups};
+use super::key_lime::KeyConfig;
+use super::key_lime::expose::frame_chroma_sequence;
+use super::random::patterns;
+use std::rc::Rc;
+use ulyptesh_host::frames::{FrameRows, FramesResult, frames};
+use ulyptesh_host::sheet::{Settings, SheetHead};
+
+/// Streams of the seed from here on are the frames'.
+const STREAM: u64 = 50_000;
+
+/// What lent rows hold before the call.
+const UNTOUCHED: f32 = -7.25;
+
+/// So many tracks of each shape.
+const TRACKS: usize = 300;
+
+/// Rate, notes, frame size, hop and by how much a track is longer than a frame, at most.
+type Shape = (u32, (u8, u8), usize, usize, usize);
+
+const SHAPES: [Shape; 9] = [
+    (8_000, (60, 72), 32, 16, 200),
+    (8_000, (72, 95), 64, 1, 9),
+    (8_000, (60, 95), 256, 600, 1_500),
+    (44_100, (84, 95), 32, 33, 150),
+    (44_100, (69, 69), 1_024, 512, 2_000),
+    (48_000, (84, 95), 128, 64, 700),
+    (48_000, (69, 69), 333, 100, 900),
+    (16_000, (250, 255), 40, 20, 300),
+    (22_050, (100, 140), 100, 37, 400),
+];
+
+/// What the call answers and the rows that it leaves.
+#[derive(Debug, PartialEq)]
+struct Left {
+    answer: FramesResult,
+    rows: FrameRows,
+}
+
+impl Compared for Left {
+    fn same(&self, other: &Self) -> bool {
+        self.answer == other.answer
+            && self.rows.centres.same(&other.rows.centres)
+            && self.rows.values.same(&other.rows.values)
+            && self.rows.energies.same(&other.rows.energies)
+    }
+
+    fn shown(&self) -> String {
+        format!("{:?}, energies {}", self.answer, self.rows.energies.shown())
+    }
+}
+
+impl Compared for Asked {
+    fn same(&self, _: &Self) -> bool {
+        false
+    }
+
+    fn shown(&self) -> String {
+        format!("{}, {:?}, {:?}, {} samples", self.what, self.settings, self.sheet.head, self.samples.len())
+    }
+}
+
+fn untouched(room: [usize; 3]) -> FrameRows {
+    FrameRows {
+        centres: vec![UNTOUCHED.into(); room[0]],
+        values: vec![[UNTOUCHED; 12]; room[1]],
+        energies: vec![UNTOUCHED; room[2]],
+    }
+}
+
+fn ours(asked: Asked) -> Left {
+    let mut rows = untouched(asked.room);
+    let answer = frames(asked.settings, &asked.sheet, &asked.samples, &mut rows);
+    Left { answer, rows }
+}
+
+fn config(settings: &Settings) -> KeyConfig {
+    KeyConfig {
+        frame_size: settings.frame_size,
+        hop_size: settings.hop_size,
+        minimum_midi_note: settings.minimum_midi_note,
+        maximum_midi_note: settings.maximum_midi_note,
+        local_window_seconds: settings.local_window_seconds,
+        local_hop_seconds: settings.local_hop_seconds,
+        ..KeyConfig::default()
+    }
+}
+
+/// The positions whose energy is above 1e-8.
+fn loud_positions(asked: &Asked) -> Vec<usize> {
+    let Settings { frame_size, hop_size, .. } = asked.settings;
+    let energy = |frame: &[f32]| {
+        frame.iter().filter(|x| x.is_finite()).map(|x| x * x).sum::<f32>() / frame_size as f32
+    };
+    let loud = |(position, frame)| (energy(frame) > 1.0e-8).then_some(position);
+    asked.samples.windows(frame_size).step_by(hop_size).enumerate().filter_map(loud).collect()
+}
+
+/// The request's table, then the oracle's frames up to the first that is not finite.
+fn theirs(asked: Asked) -> Left {
+    let mut rows = untouched(asked.room);
+    if let Some(refusal) = asked.refusal() {
+        return Left { answer: FramesResult { refusal, position: 0, count: 0 }, rows };
+    }
+    let found = frame_chroma_sequence(&asked.samples, asked.settings.rate, config(&asked.settings));
+    let (found, energies) = found.unwrap_or_default();
+    let whole = |at: &usize| energies[*at].is_finite() && found[*at].values.iter().all(|x| x.is_finite());
+    let good = (0..found.len()).take_while(whole).count();
+    for at in 0..good {
+        rows.centres[at] = found[at].center_seconds;
+        rows.values[at] = found[at].values;
+        rows.energies[at] = energies[at];
+    }
+    let (refusal, position) =
+        if good < found.len() { (9, loud_positions(&asked)[good] as u64) } else { (0, 0) };
+    Left { answer: FramesResult { refusal, position, count: good as u64 }, rows }
+}
+
+fn settings_of(shape: Shape) -> Settings {
+    let (rate, (minimum_midi_note, maximum_midi_note), frame_size, hop_size, _) = shape;
+    Settings {
+        rate,
+        frame_size,
+        hop_size,
+        minimum_midi_note,
+        maximum_midi_note,
+        local_window_seconds: 12.0,
+        local_hop_seconds: 6.0,
+        alternate_coverage_threshold: 0.25,
+        segment_confidence_threshold: 0.35,
+        minimum_segment_seconds: 12.0,
+    }
+}
+
+fn tables(settings: &Settings) -> Tables {
+    let Settings { rate, minimum_midi_note, maximum_midi_note, frame_size, .. } = *settings;
+    Tables::new(SheetHead { rate, minimum_midi_note, maximum_midi_note, frame_size })
+}
+
+/// One track in three has but one loud stretch, one in eight a sample that is not finite or too large.
+fn samples(seed: u64, stream: u64, nth: usize, length: usize) -> Vec<f32> {
+    let mut draws = patterns(seed, stream);
+    let mut draw = || draws.next().expect("patterns never end");
+    let mut samples = KINDS[nth % KINDS.len()].track(seed, draw(), length);
+    if draw() % 3 == 0 {
+        let from = draw() as usize % length;
+        let until = from + 1 + draw() as usize % 40;
+        samples
+            .iter_mut()
+            .enumerate()
+            .filter(|(at, _)| !(from..until).contains(at))
+            .for_each(|(_, x)| *x = 0.0);
+    }
+    if draw() % 8 == 0 {
+        let values = [f32::NAN, f32::INFINITY, f32::NEG_INFINITY, 1e25, f32::MAX];
+        samples[draw() as usize % length] = values[draw() as usize % values.len()];
+    }
+    samples
+}
+
+fn tracks(seed: u64, nth_shape: usize, shape: Shape) -> impl Iterator<Item = Asked> {
+    let settings = settings_of(shape);
+    let sheet = Rc::new(tables(&settings).sheet);
+    let (_, _, size, hop, longer) = shape;
+    (0..TRACKS).map(move |nth| {
+        let stream = STREAM + (nth_shape * TRACKS + nth) as u64;
+        let draw = patterns(seed, stream).nth(9).expect("patterns never end");
+        let length = size - 1 + (draw >> 8) as usize % (longer + 2);
+        let positions = length.saturating_sub(size) / hop + 1;
+        let room = [positions + (draw % 3) as usize, positions + (draw >> 2) as usize % 3, positions];
+        let samples = samples(seed, stream, nth, length);
+        Asked { what: KINDS[nth % KINDS.len()].name, settings, sheet: Rc::clone(&sheet), samples, room }
+    })
+}
+
+/// Each check alone, and with each later one, on a call that would pass.
+fn refused() -> impl Iterator<Item = Asked> {
+    let settings = settings_of((8_000, (60, 72), 64, 32, 0));
+    let sheet = Rc::new(tables(&settings).sheet);
+    let samples: Vec<f32> = (0..256).map(|at| (at as f32 * 0.3).sin()).collect();
+    let whole = Asked { what: "whole", settings, sheet, samples, room: [7, 8, 9] };
+    assert_eq!(whole.refusal(), None);
+    let pairs = (0..BREACHES.len()).flat_map(|one| (one..BREACHES.len()).map(move |other| (one, other)));
+    let broken = {
+        let whole = whole.clone();
+        pairs.map(move |(one, other)| {
+            let mut asked = whole.clone();
+            (BREACHES[other].breaks)(&mut asked);
+            (BREACHES[one].breaks)(&mut asked);
+            asked.what = BREACHES[one].what;
+            asked
+        })
+    };
+    std::iter::once(whole).chain(broken)
+}
+
+pub fn compare(groups: &mut Groups) {
+    let seed = groups.seed;
+    for (nth, shape) in SHAPES.into_iter().enumerate() {
+        let name = format!("frames of {} at {} Hz, hop {}", shape.2, shape.0, shape.3);
+        groups.group(&name, tracks(seed, nth, shape), ours, theirs);
+    }
+    groups.group("frames, each check alone and with each later one", refused(), ours, theirs);
+}
