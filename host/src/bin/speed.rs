@@ -12,6 +12,9 @@ mod filters;
 #[allow(dead_code)]
 #[path = "../compare/filters_tables.rs"]
 mod filters_tables;
+#[cfg(oracle)]
+#[path = "../speed/frames.rs"]
+mod frames;
 #[path = "../compare/random.rs"]
 mod random;
 
@@ -123,4 +126,6 @@ fn main() {
     chroma_rows();
     #[cfg(oracle)]
     filters::print_rows();
+    #[cfg(oracle)]
+    frames::print_row();
 }
