@@ -5,6 +5,7 @@ ghost use Rattle.calls.specs.Call.{given, positionsOf};
 ghost use Rattle.checks.specs.Checks.{allFinite, nothingToDo, checked};
 use calls::Settings;
 use calls::SheetHead;
+use numbers::counts::fewer;
 use numbers::single::is_finite;
 use sheets::matches;
 use sheets::well_formed;
@@ -39,13 +40,6 @@ fn nothing_to_do(s: Settings, count: usize) -> bool
         | (s.maximum_midi_note < s.minimum_midi_note)
         | !(0.0 < s.local_window_seconds)
         | !(0.0 < s.local_hop_seconds)
-}
-
-// The smaller of two counts.
-fn fewer(a: usize, b: usize) -> usize
-    ensures { λ r. ⌜ r ≡ min a b ⌝ }
-{
-    if a < b { a } else { b }
 }
 
 // The smallest of three.

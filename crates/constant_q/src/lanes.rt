@@ -5,10 +5,10 @@ ghost use Prim.Native.Nat.{_<_, _≤_};
 ghost use lib.ListN.{length};
 ghost use Rattle.filters.specs.Resonator.{steppedOf};
 ghost use Rattle.constant_q.specs.Lanes.{Lies, FourLie, laneValue, laneDelay, perCount, lastPower, lanePower, steppedFour, fewestOf, fourDelays, fourPowers};
-use crate::span::fewer;
 use filters::resonator::Delay;
 use filters::resonator::power;
 use filters::resonator::step;
+use numbers::counts::fewer;
 use numbers::single::larger;
 
 // Where a row's samples and window values begin, how many there are, and how its resonator is tuned.

@@ -1,7 +1,8 @@
 // The part of a track that a window around a centre covers.
 ghost use mathlib.Core.Path.{_≡_};
-ghost use Prim.Native.Nat.{_-_, _≤_, min};
+ghost use Prim.Native.Nat.{_-_, _≤_};
 ghost use Rattle.constant_q.specs.Span.{spanOf, halfLeft};
+use numbers::counts::fewer;
 
 // The part of the track that a window covers: its first sample, and how many there are.
 pub struct Span {
@@ -14,13 +15,6 @@ fn less(a: usize, b: usize) -> usize
     ensures { λ r. ⌜ r ≡ a - b ⌝ }
 {
     if a < b { 0 } else { a - b }
-}
-
-// The smaller of two counts.
-pub fn fewer(a: usize, b: usize) -> usize
-    ensures { λ r. ⌜ r ≡ min a b ⌝ }
-{
-    if a < b { a } else { b }
 }
 
 // A window of this size around a centre, cut at the track's ends.

@@ -1,7 +1,7 @@
 -- Arithmetic.
 use borrow.Author.Needs.{needs}
-use Rattle.constant_q.proofs.span.fewer.Statement.{statement}
-use Rattle.constant_q.proofs.span.fewer.Tie as tie
+use Rattle.numbers.proofs.counts.fewer.Statement.{statement}
+use Rattle.numbers.proofs.counts.fewer.Tie as tie
 
 returns : tie.Need-returns
 returns c = search needs
