@@ -19,6 +19,9 @@ const UNTOUCHED: f32 = -7.25;
 /// So many tracks of each shape.
 const TRACKS: usize = 300;
 
+/// Samples that are not finite, or whose squares are not.
+const SPOILT: [f32; 6] = [f32::NAN, f32::INFINITY, f32::NEG_INFINITY, 1e19, 1e25, -f32::MAX];
+
 /// Rate, notes, frame size, hop and by how much a track is longer than a frame, at most.
 type Shape = (u32, (u8, u8), usize, usize, usize);
 
@@ -55,8 +58,8 @@ impl Compared for Left {
 }
 
 impl Compared for Asked {
-    fn same(&self, _: &Self) -> bool {
-        false
+    fn same(&self, other: &Self) -> bool {
+        self.shown() == other.shown() && self.samples.same(&other.samples)
     }
 
     fn shown(&self) -> String {
@@ -156,8 +159,7 @@ fn samples(seed: u64, stream: u64, nth: usize, length: usize) -> Vec<f32> {
             .for_each(|(_, x)| *x = 0.0);
     }
     if draw() % 8 == 0 {
-        let values = [f32::NAN, f32::INFINITY, f32::NEG_INFINITY, 1e25, f32::MAX];
-        samples[draw() as usize % length] = values[draw() as usize % values.len()];
+        samples[draw() as usize % length] = SPOILT[draw() as usize % SPOILT.len()];
     }
     samples
 }
@@ -177,13 +179,30 @@ fn tracks(seed: u64, nth_shape: usize, shape: Shape) -> impl Iterator<Item = Ask
     })
 }
 
-/// Each check alone, and with each later one, on a call that would pass.
-fn refused() -> impl Iterator<Item = Asked> {
+/// A call that passes: 256 samples of a tone at 8,000 Hz, seven frames.
+fn whole() -> Asked {
     let settings = settings_of((8_000, (60, 72), 64, 32, 0));
     let sheet = Rc::new(tables(&settings).sheet);
-    let samples: Vec<f32> = (0..256).map(|at| (at as f32 * 0.3).sin()).collect();
+    let samples = (0..256).map(|at| (at as f32 * 0.3).sin()).collect();
     let whole = Asked { what: "whole", settings, sheet, samples, room: [7, 8, 9] };
     assert_eq!(whole.refusal(), None);
+    whole
+}
+
+/// One sample that is not finite or too large, in every place.
+fn spoilt() -> impl Iterator<Item = Asked> {
+    let whole = whole();
+    let places = (0..whole.samples.len()).flat_map(|at| SPOILT.map(|value| (at, value)));
+    places.map(move |(at, value)| {
+        let mut asked = Asked { what: "one sample spoilt", ..whole.clone() };
+        asked.samples[at] = value;
+        asked
+    })
+}
+
+/// Each check alone, and with each later one, on a call that would pass.
+fn refused() -> impl Iterator<Item = Asked> {
+    let whole = whole();
     let pairs = (0..BREACHES.len()).flat_map(|one| (one..BREACHES.len()).map(move |other| (one, other)));
     let broken = {
         let whole = whole.clone();
@@ -204,5 +223,6 @@ pub fn compare(groups: &mut Groups) {
         let name = format!("frames of {} at {} Hz, hop {}", shape.2, shape.0, shape.3);
         groups.group(&name, tracks(seed, nth, shape), ours, theirs);
     }
+    groups.group("frames, one sample spoilt in every place", spoilt(), ours, theirs);
     groups.group("frames, each check alone and with each later one", refused(), ours, theirs);
 }
