@@ -1,11 +1,14 @@
 -- Each way out of a turn is a law of `Runs`.
-use Prim.Native.Nat.{_-_}
+use mathlib.Core.Path.{_≡_}
+use mathlib.Core.Bool.{true}
+use Prim.Native.Nat.{ℕ, _-_}
 use native.Mathlib.Omega.{arith}
 use borrow.Author.Needs.{needs}
 use borrow.Author.Tests.{not-true, not-false}
-use Rattle.calls.specs.Call.{callOf}
+use Rattle.calls.specs.Call.{Call, callOf}
 use Rattle.calls.specs.Rows.{rows}
-use Rattle.frames.specs.Run.{energyAt}
+use Rattle.frames.specs.Frame.{loud}
+use Rattle.frames.specs.Run.{energyAt, frameRow}
 use Rattle.frames.proofs.Runs.{frame-fits, heard, row-is, judged, Reached, reached-start, reached-quiet, reached-loud, reached-broken, reached-end}
 use Rattle.frames.proofs.run.fill_rows.Statement.{statement}
 use Rattle.frames.proofs.run.fill_rows.Tie as tie
@@ -58,19 +61,34 @@ same-length-2 c = c .before .before .before .before .before .before .before .loo
 same-length-3 : tie.Need-same-length-3 Inv-loop μ-loop
 same-length-3 c = c .before .before .before .before .before .before .before .loop .inv .energies .long
 
+-- of a loud frame whose row was judged: how far the run has come, that it is loud, and that its row is the position's
+module _ (c : tie.After-is-whole Inv-loop μ-loop) where
+  abbrev loud-there : tie.Then1 Inv-loop μ-loop
+  loud-there = c .before .before
+
+  abbrev energy : tie.After-frame-energy Inv-loop μ-loop
+  energy = loud-there .before .before
+
+  abbrev call : Call
+  call = let a = energy .before .before .before .before .before .before .before .before .before .before .before .before .args in callOf (a .settings) (a .head) (a .samples .now) (a .window .now) (a .coefficients .now) (a .weights .now) (a .lengths .now) (a .qcoefficients .now) (a .qwindows .now)
+
+  abbrev k : ℕ
+  k = energy .before .before .loop .k
+
+  heard-loud : loud (energyAt call k) ≡ true
+  unfolding energyAt
+  heard-loud = heard (energy .before .before .loop .inv) (energy .frame-energy .ensures) (loud-there .before .is-loud .ensures) (loud-there .if1 .taken)
+
+  same-row : c .before .frame-row .result ≡ frameRow call k
+  unfolding energyAt
+  same-row = row-is (energy .before .before .loop .inv) (energy .frame-energy .ensures) (c .before .frame-row .ensures)
+
 returns : tie.Need-returns Inv-loop μ-loop
-unfolding energyAt
 returns c =
-    let whole = c .before in
-    let row = whole .before in
-    let loud = row .before in
-    let energy = loud .before .before in
-    let turn = energy .before in
+    let judgement = c .before in
+    let turn = energy judgement .before in
     let r = turn .before .loop .inv in
-    let e = energy .frame-energy .ensures in
-    let l = heard r e (loud .before .is-loud .ensures) (loud .if1 .taken) in
-    let w = judged r (row-is r e (row .frame-row .ensures)) (whole .is-whole .ensures) (not-true _ (c .if2 .taken)) in
-    reached-broken r (turn .loop-test .taken) l w
+    reached-broken r (turn .loop-test .taken) (heard-loud judgement) (judged r (same-row judgement) (judgement .is-whole .ensures) (not-true _ (c .if2 .taken)))
 
 put-row-requires : tie.Need-put-row-requires Inv-loop μ-loop
 put-row-requires c κs = search needs
@@ -82,21 +100,13 @@ loop-less : tie.Need-loop-less Inv-loop μ-loop
 loop-less c = search needs
 
 loop-again : tie.Need-loop-again Inv-loop μ-loop
-unfolding energyAt
 loop-again c =
     let put = c .before .before .before .before .before in
     let kept = put .before .before .before .before in
-    let whole = kept .before in
-    let row = whole .before in
-    let loud = row .before in
-    let energy = loud .before .before in
-    let turn = energy .before in
+    let judgement = kept .before in
+    let turn = energy judgement .before in
     let r = turn .before .loop .inv in
-    let e = energy .frame-energy .ensures in
-    let l = heard r e (loud .before .is-loud .ensures) (loud .if1 .taken) in
-    let i = row-is r e (row .frame-row .ensures) in
-    let w = judged r i (whole .is-whole .ensures) (not-false _ (kept .if2 .left)) in
-    reached-loud r i (put .put-row .ensures) (turn .loop-test .taken) l w
+    reached-loud r (same-row judgement) (put .put-row .ensures) (turn .loop-test .taken) (heard-loud judgement) (judged r (same-row judgement) (judgement .is-whole .ensures) (not-false _ (kept .if2 .left)))
 
 loop-less-2 : tie.Need-loop-less-2 Inv-loop μ-loop
 loop-less-2 c = search needs
