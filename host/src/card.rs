@@ -5,8 +5,8 @@ use std::fmt;
 /// A key that is missing.
 pub const NO_KEY: u32 = 24;
 
-/// A card of as many segments as it can have, 1,023, has this many bytes.
-pub const LONGEST_CARD: usize = 4994;
+/// Bytes of a card with as many segments as it can have, 1,023: 49 bits of header, 39 for each.
+pub const LONGEST_CARD: usize = (49 + 39 * 1_023usize).div_ceil(8);
 
 /// What a card is written from: keys by number, times in seconds, confidences and the coverage from 0 to 1.
 #[derive(Debug, Clone, Copy)]

@@ -10,7 +10,7 @@ pub record Meaning : Type 0 where
   pub header : Header
   pub segments : List Segment
 
--- layout 1: 10 bits for the count and 24 for an end; at most 1,023 segments, the last of which ends at 4 hours
+-- layout 1: 10 bits for the count and 24 for an end; at most 1,023 segments, none of which ends after 4 hours
 abbrev pub layout1 : Layout
 layout1 = record { number = 1; count = 10; end = 24; most = 1_023; last = 14_400_000 }
 

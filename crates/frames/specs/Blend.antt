@@ -3,19 +3,15 @@ use Prim.Native.Nat.{ℕ}
 use mathlib.Core.Bool.{cond}
 use mathlib.Core.List.{List}
 use lib.ListN.{getD}
-use lib.Ieee.{Float, nan, binary32, ofBits, add, mul, lt}
+use lib.Ieee.{Float, nan, binary32, add, mul, lt}
 use Rattle.laws.specs.Front.{list}
-use Rattle.laws.specs.Values.{epsilon}
+use Rattle.laws.specs.Values.{aHalf, epsilon}
 use Rattle.numbers.specs.Sum.{sumOf}
 use Rattle.chroma.specs.Levels.{whitenedOf, normalizedOf}
 
 -- whitened and normalised
 unfoldable pub levelled : List Float → List Float
 levelled chroma = normalizedOf (whitenedOf chroma)
-
--- 0.5
-abbrev pub aHalf : Float
-aHalf = ofBits binary32 0x3f00_0000
 
 -- half of each
 unfoldable pub halvesOf : List Float → List Float → List Float

@@ -50,6 +50,10 @@ one = fin false 1 (pos 0)
 abbrev pub two : Float
 two = fin false 1 (pos 1)
 
+-- 0.5
+abbrev pub aHalf : Float
+aHalf = ofBits binary32 0x3f00_0000
+
 -- 2^-23, Rust's f32::EPSILON
 abbrev pub epsilon : Float
 epsilon = ofBits binary32 0x3400_0000

@@ -6,7 +6,7 @@ use lib.Dec.{T, eqb}
 use lib.ListN.{length, getD, replicate}
 use lib.Ieee.{Float, nan, binary32, binary64, isNan, ofBits, toBits}
 use Rattle.laws.specs.Every.{every}
-use Rattle.laws.specs.Values.{plusZero, one}
+use Rattle.laws.specs.Values.{plusZero, one, aHalf}
 use Rattle.keys.specs.Numbers.{keyNumber}
 use Rattle.chroma.specs.Shift.{shiftedOf}
 use Rattle.card.specs.Layout.{layout1}
@@ -32,7 +32,7 @@ halves = 0x3f00_0000 ∷ replicate 10 0 ++ (0x3f00_0000 ∷ [])
 
 -- bin 11 alone, offset 0.5: bins 0 and 11 are 0.5
 unfoldable pub rowL : Row
-rowL = record { letter = 108; holds = every (λ (k : ℕ). eqb (toBits binary32 (getD (shiftedOf onlyB (ofBits binary32 0x3f00_0000)) k nan)) (getD halves k 1)) 12 }
+rowL = record { letter = 108; holds = every (λ (k : ℕ). eqb (toBits binary32 (getD (shiftedOf onlyB aHalf) k nan)) (getD halves k 1)) 12 }
 
 -- ---- m and n: what a chroma of twelve equal values tells
 -- each score and the confidence pass a test, and the key is number 0
@@ -59,10 +59,6 @@ sameNumbers xs ys = eqb (length xs) (length ys) && every (λ (k : ℕ). eqb (get
 -- a card holds the analysis, and has these bytes
 abbrev pub writes : Analysis → List ℕ → Bool
 writes a bytes = not (unwritable layout1 a) && sameNumbers (cardBytes layout1 (meaningOf layout1 a)) bytes
-
--- 0.5
-abbrev pub aHalf : Float
-aHalf = ofBits binary32 0x3f00_0000
 
 -- key 21, DSP key 21, no alternate, confidence 0.5; one segment from 0 to 180 s, key 21, confidence 0.5
 abbrev pub aMinor : Analysis

@@ -88,7 +88,7 @@ fn rising(count: usize, random: &mut impl Iterator<Item = u64>) -> Vec<u64> {
         .collect()
 }
 
-/// What no card is left out of: no key at all.
+/// The empty analysis: no key at all.
 fn silent(lent: usize) -> Told {
     Told {
         key: NO_KEY,

@@ -7,7 +7,8 @@ use Prim.Native.Nat.{ℕ, _≤_, _-_}
 use lib.ListN.{getD}
 use lib.Ieee.{Float, nan, binary32, ofBits, add, mul}
 use Rattle.laws.proofs.Front.{Filled, filled-start, filled-more, filled-whole}
-use Rattle.frames.specs.Blend.{aHalf, halvesOf}
+use Rattle.laws.specs.Values.{aHalf}
+use Rattle.frames.specs.Blend.{halvesOf}
 use Rattle.frames.proofs.blend.add_halves.Statement.{statement}
 use Rattle.frames.proofs.blend.add_halves.Tie as tie
 
