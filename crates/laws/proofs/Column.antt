@@ -2,7 +2,8 @@
 use mathlib.Core.Path.{_≡_, refl, sym, ap, _∙_}
 use mathlib.Core.List.{List, [], _∷_, _++_, map, map-append}
 use Prim.Native.Nat.{ℕ, _<_}
-use lib.ListN.{length, set, length-set, length-map}
+use lib.ListN.{length, getD, set, length-set, length-map, List·getD-append, List·getD-map}
+use lib.Seq.{getD-set-same, set-getD}
 use Rattle.laws.specs.Front.{front}
 use Rattle.laws.proofs.Front.{front-more}
 
@@ -23,3 +24,13 @@ column-more f records r {m₀} {m} n e h c =
       here = ap (λ (l : List _). set l n (f r)) (c .here) ∙ ap (λ (i : ℕ). set (front (map f records) m₀) i (f r)) k ∙ front-more (map f records) m₀ (f r) j ∙ ap (λ (l : List _). front l m₀) (sym (map-append f records (r ∷ [])));
       long = length-set m n (f r) ∙ c .long;
     }
+
+-- an entry that is there, whatever would stand for one that is not
+pub entry-there : {A : Type 0} (xs : List A) (i : ℕ) (d e : A) → i < length xs → getD xs i d ≡ getD xs i e
+entry-there xs i d e h = sym (getD-set-same xs i (getD xs i d) e h) ∙ ap (λ (l : List _). getD l i e) (set-getD xs i d)
+
+-- a column's entry
+pub column-at : {R A : Type 0} (f : R → A) (found : List R) (m : List A) (i : ℕ) (d : A) (r : R) → i < length found → getD (front (map f found) m) i d ≡ f (getD found i r)
+column-at f found m i d r h =
+    let there : i < length (map f found) = rw (length-map found f) h in
+    List·getD-append (map f found) _ d i there ∙ entry-there (map f found) i d (f r) there ∙ List·getD-map f found i r

@@ -1,9 +1,10 @@
 -- What the proof of a search cites. A loop up to n has the invariant `first test (n - i) i ≡ r`, with r its result:
 -- `first-start` where it begins, `first-again` after a turn, `first-out` where the test passes, `first-end` where all are tried.
 use mathlib.Core.Path.{_≡_, refl, sym, ap, _∙_}
+use mathlib.Core.Logic.{_⊎_, inl, inr}
 use mathlib.Core.Bool.{Bool, true, false, cond}
 use Prim.Native.Nat.{ℕ, zero, suc, _+_, _-_, _<_, _≤_}
-use native.Mathlib.Nat.{add-zero, not-suc-le-zero, le-of-suc-le-suc}
+use native.Mathlib.Nat.{add-zero, not-suc-le-zero, le-of-suc-le-suc, eq-or-lt-of-le}
 use native.Mathlib.Omega.{arith}
 use Rattle.laws.specs.First.{first}
 use Rattle.laws.proofs.Turns.{one-less, none-left, all-left}
@@ -37,3 +38,24 @@ first-none test (suc n) i h k less = either (test i) refl h (λ far j. first-non
     either false e far go (suc k) less =
         let next : i + suc k ≡ i + 1 + k = omega arith in
         ap test next ∙ go (omega (arith, far)) k (le-of-suc-le-suc less)
+
+-- every number before the first that passes fails
+pub first-before : (test : ℕ → Bool) (n i k : ℕ) → i ≤ k → k < first test n i → test k ≡ false
+unfolding first
+first-before test zero i k low less = absurd (omega arith)
+first-before test (suc n) i k low less = either (test i) refl less (λ above short. first-before test n (i + 1) k above short)
+  where
+    either : (b : Bool) → test i ≡ b → k < cond b i (first test n (i + 1)) → (i + 1 ≤ k → k < first test n (i + 1) → test k ≡ false) → test k ≡ false
+    either true e short go = absurd (omega arith)
+    either false e short go = elim (eq-or-lt-of-le low) [ inl same ↦ ap test (sym same) ∙ e | inr above ↦ go (omega arith) short ]
+
+-- a search ends with a number that passes, or behind all of them
+pub first-or-end : (test : ℕ → Bool) (n i : ℕ) → (test (first test n i) ≡ true) ⊎ (first test n i ≡ i + n)
+unfolding first
+first-or-end test zero i = inr (sym (add-zero i))
+first-or-end test (suc n) i = either (test i) refl (first-or-end test n (i + 1))
+  where
+    either : (b : Bool) → test i ≡ b → (test (first test n (i + 1)) ≡ true) ⊎ (first test n (i + 1) ≡ i + 1 + n) → (test (cond b i (first test n (i + 1))) ≡ true) ⊎ (cond b i (first test n (i + 1)) ≡ i + suc n)
+    either true e rest = inl e
+    either false e (inl passes) = inl passes
+    either false e (inr none) = inr (omega (arith, none))

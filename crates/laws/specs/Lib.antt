@@ -8,3 +8,4 @@ pub mod Values
 pub mod Order
 pub mod Pick
 pub mod Convert
+pub mod Leader

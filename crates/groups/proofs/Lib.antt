@@ -1,0 +1,4 @@
+mod Voting
+mod Parts
+mod Cuts
+pub mod Tiled

@@ -1,0 +1,44 @@
+-- Laws of estimates in lent rows: the numbers and the confidences of a group are entries of the rows' own slices.
+use mathlib.Core.Path.{_≡_, refl, sym, ap, _∙_}
+use mathlib.Core.List.{List, [], _∷_, _++_, map, map-append}
+use Prim.Native.Nat.{ℕ, zero, suc, _-_, _<_, _≤_}
+use native.Mathlib.Omega.{arith}
+use lib.ListN.{length, getD, take, drop, length-drop}
+use lib.Seq.{take-append-le, drop-append-le}
+use lib.Ieee.{Float, nan}
+use Rattle.laws.specs.Front.{list}
+use Rattle.laws.proofs.Front.{length-list, list-same, front-own}
+use Rattle.keys.specs.Numbers.{keyNumber}
+use Rattle.keys.proofs.Placed.{numbers-are-keys}
+use Rattle.timeline.specs.Estimates.{EstimateRows, Found, estimateIn, estimatesIn}
+use Rattle.timeline.specs.declared.estimate.Estimate.{Estimate}
+use Rattle.groups.specs.Groups.{between, grouped, numbersOf, groupOf}
+
+-- what stands behind a list does not matter to a part of it
+part-of-first : {A : Type 0} (xs ys : List A) (from to : ℕ) → from ≤ to → to ≤ length xs → between (xs ++ ys) from to ≡ between xs from to
+part-of-first xs ys from to h k =
+    let room : to - from ≤ length (drop from xs) = rw length-drop (omega arith) in
+    ap (take (to - from)) (drop-append-le from xs ys (omega arith)) ∙ take-append-le (to - from) (drop from xs) ys room
+
+map-list : {A B : Type 0} (f : A → B) (g : ℕ → A) (n : ℕ) → map f (list g n) ≡ list (λ (i : ℕ). f (g i)) n
+unfolding list
+map-list f g zero = refl
+map-list f g (suc n) = map-append f (list g n) (g n ∷ []) ∙ ap (λ (l : List _). l ++ (f (g n) ∷ [])) (map-list f g n)
+
+-- a part of what the first n entries of xs are made of is a part of xs
+part-of-rows : {A B : Type 0} (f : B → A) (g : ℕ → B) (xs : List A) (d : A) (n from to : ℕ) → ((i : ℕ) → i < n → f (g i) ≡ getD xs i d) → from ≤ to → to ≤ n → n ≤ length xs
+    → between xs from to ≡ between (map f (list g n)) from to
+part-of-rows f g xs d n from to same h k l =
+    let own : ℕ → _ = λ (i : ℕ). getD xs i d in
+    let long : to ≤ length (list own n) = rw (length-list own n) k in
+    let entries : list own n ≡ map f (list g n) = list-same own (λ (i : ℕ). f (g i)) n (λ i p. sym (same i p)) ∙ sym (map-list f g n) in
+    ap (λ (ys : List _). between ys from to) (front-own xs n d l) ∙ part-of-first (list own n) (drop (length (list own n)) xs) from to h long ∙ ap (λ (ys : List _). between ys from to) entries
+
+module _ (rows : EstimateRows) (count : ℕ) (there : Found rows count) where
+  -- a group's segment, from the slices
+  pub group-in-rows : (from to : ℕ) (start end : Float) → from ≤ to → to ≤ count → grouped start end (between (rows .keys) from to) (between (rows .confidences) from to) ≡ groupOf (estimatesIn rows count) from to start end
+  unfolding groupOf estimateIn
+  group-in-rows from to start end h k =
+      let numbers = part-of-rows (λ (e : Estimate). keyNumber (e .key)) (estimateIn rows) (rows .keys) 0 count from to (λ i p. numbers-are-keys .number-back _ (there .numbered i p)) h k (there .keys) in
+      let confidences = part-of-rows (λ (e : Estimate). e .confidence) (estimateIn rows) (rows .confidences) nan count from to (λ i p. refl) h k (there .confidences) in
+      ap (λ (l : List ℕ). grouped start end l (between (rows .confidences) from to)) numbers ∙ ap (grouped start end (between (numbersOf (estimatesIn rows count)) from to)) confidences

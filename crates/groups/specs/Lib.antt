@@ -1,0 +1,3 @@
+pub mod Majority
+pub mod Groups
+pub mod Tiled

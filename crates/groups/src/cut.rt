@@ -1,0 +1,202 @@
+// Estimates cut into groups, and each group made a segment.
+ghost use mathlib.Core.Path.{_≡_};
+ghost use Prim.Native.Nat.{_+_, _<_, _≤_, _^_};
+ghost use lib.ListN.{length};
+ghost use Rattle.numbers.specs.Sum.{sumOf};
+ghost use Rattle.timeline.specs.Estimates.{Found, lentEstimates, estimatesIn, estimateIn};
+ghost use Rattle.timeline.specs.Segments.{Room, lentSegments, putSegment, filled, standing};
+ghost use Rattle.groups.specs.Groups.{splits, meanOf, grouped, group, groupIn, borderOf, groupsOf};
+use crate::majority::majority_key;
+use keys::numbers::same_key;
+use timeline::estimate::Estimate;
+use timeline::estimate::estimate_at;
+use timeline::segment::Segment;
+use timeline::segment::put_segment;
+use timeline::stored::stored_key;
+
+// The estimates from `from` up to `to`, and the time that they stand for.
+struct Group {
+    from: usize,
+    to: usize,
+    start: f64,
+    end: f64,
+}
+
+// A group, from its parts.
+fn group_of(from: usize, to: usize, start: f64, end: f64) -> Group
+    ensures { λ r. ⌜ r ≡ group from to start end ⌝ }
+{
+    Group {
+        from,
+        to,
+        start,
+        end,
+    }
+}
+
+// Whether a window starts a group: another key than the window before, with confidence enough.
+fn starts_group(threshold: f32, before: Estimate, estimate: Estimate) -> bool
+    ensures { λ r. ⌜ r ≡ splits threshold before estimate ⌝ }
+{
+    let key = estimate.key;
+    let other = before.key;
+    !same_key(key, other) & (threshold <= estimate.confidence)
+}
+
+// Midway between the centres of two windows.
+fn border_between(before: Estimate, estimate: Estimate) -> f64
+    ensures { λ r. ⌜ r ≡ borderOf before estimate ⌝ }
+{
+    (before.centre + estimate.centre) / 2.0
+}
+
+// Whether window `next` starts a group, against window `before`.
+fn is_split(
+    threshold: f32,
+    before: usize,
+    next: usize,
+    middles: &[f64],
+    numbers: &[u8],
+    certainties: &[f32],
+) -> bool
+    requires { ⌜ (before < next) × (next < length (now middles)) × (next < length (now numbers)) × (next < length (now certainties)) ⌝ }
+    ensures { λ r. ⌜ r ≡ splits threshold (estimateIn (lentEstimates (middles .entry) (numbers .entry) (certainties .entry)) before) (estimateIn (lentEstimates (middles .entry) (numbers .entry) (certainties .entry)) next) ⌝ }
+{
+    let earlier = estimate_at(before, middles, numbers, certainties);
+    let later = estimate_at(next, middles, numbers, certainties);
+    starts_group(threshold, earlier, later)
+}
+
+// The border between two windows in the rows.
+fn border_in_rows(
+    before: usize,
+    next: usize,
+    middles: &[f64],
+    numbers: &[u8],
+    certainties: &[f32],
+) -> f64
+    requires { ⌜ (before < next) × (next < length (now middles)) × (next < length (now numbers)) × (next < length (now certainties)) ⌝ }
+    ensures { λ r. ⌜ r ≡ borderOf (estimateIn (lentEstimates (middles .entry) (numbers .entry) (certainties .entry)) before) (estimateIn (lentEstimates (middles .entry) (numbers .entry) (certainties .entry)) next) ⌝ }
+{
+    let earlier = estimate_at(before, middles, numbers, certainties);
+    let later = estimate_at(next, middles, numbers, certainties);
+    border_between(earlier, later)
+}
+
+// The confidences summed from -0.
+fn sum_confidences(confidences: &[f32]) -> f32
+    ensures { λ r. ⌜ r ≡ sumOf (length (now (confidences .entry))) (now (confidences .entry)) ⌝ }
+{
+    let count = confidences.len();
+    let mut sum = -0.0;
+    let mut i = 0;
+    while i < count {
+        sum += confidences[i];
+        i += 1;
+    }
+    sum
+}
+
+// The mean of the confidences.
+fn mean_confidence(confidences: &[f32]) -> f32
+    requires { ⌜ length (now confidences) < 2 ^ 32 ⌝ }
+    ensures { λ r. ⌜ r ≡ meanOf (now (confidences .entry)) ⌝ }
+{
+    let count = confidences.len();
+    sum_confidences(confidences) / std::num::nearest_u32_to_f32(count as u32)
+}
+
+// The segment of a group.
+fn segment_of_group(start: f64, end: f64, numbers: &[u8], confidences: &[f32]) -> Segment
+    requires { ⌜ (0 < length (now numbers)) × (length (now confidences) < 2 ^ 32) ⌝ }
+    ensures { λ r. ⌜ r ≡ grouped start end (now (numbers .entry)) (now (confidences .entry)) ⌝ }
+{
+    let key = stored_key(majority_key(numbers));
+    Segment {
+        start,
+        end,
+        key,
+        confidence: mean_confidence(confidences),
+    }
+}
+
+// The segment of a group goes into place n.
+fn write_group(
+    group: Group,
+    numbers: &[u8],
+    certainties: &[f32],
+    n: usize,
+    starts: &mut [f64],
+    ends: &mut [f64],
+    keys: &mut [u8],
+    confidences: &mut [f32],
+)
+    requires { ⌜ (group .from < group .to) × (group .to ≤ length (now numbers)) × (group .to ≤ length (now certainties)) × (group .to < 2 ^ 32) × Room (lentSegments starts ends keys confidences) (n + 1) ⌝ }
+    ensures { λ _. ⌜ lentSegments (starts .exit) (ends .exit) (keys .exit) (confidences .exit) ≡ putSegment (groupIn group (now (numbers .entry)) (now (certainties .entry))) n (lentSegments (starts .entry) (ends .entry) (keys .entry) (confidences .entry)) ⌝ }
+{
+    let from = group.from;
+    let to = group.to;
+    let whole = segment_of_group(
+        group.start,
+        group.end,
+        &numbers[from..to],
+        &certainties[from..to],
+    );
+    put_segment(whole, n, starts, ends, keys, confidences);
+}
+
+// Every group in turn, into the lent rows from the front; returns how many there are.
+pub fn cut_groups(
+    threshold: f32,
+    duration: f64,
+    found: usize,
+    middles: &[f64],
+    numbers: &[u8],
+    certainties: &[f32],
+    starts: &mut [f64],
+    ends: &mut [f64],
+    keys: &mut [u8],
+    confidences: &mut [f32],
+) -> usize
+    requires { ⌜ (0 < found) × Found (lentEstimates middles numbers certainties) found × Room (lentSegments starts ends keys confidences) found ⌝ }
+    ensures { λ r. ⌜ filled r (lentSegments (starts .exit) (ends .exit) (keys .exit) (confidences .exit)) ≡ standing (groupsOf threshold duration (estimatesIn (lentEstimates (middles .entry) (numbers .entry) (certainties .entry)) found)) (lentSegments (starts .entry) (ends .entry) (keys .entry) (confidences .entry)) ⌝ }
+{
+    let last = found - 1;
+    let mut from = 0;
+    let mut start = 0.0;
+    let mut n = 0;
+    let mut j = 0;
+    while j < last {
+        let next = j + 1;
+        if is_split(threshold, j, next, middles, numbers, certainties) {
+            let end = border_in_rows(j, next, middles, numbers, certainties);
+            let group = group_of(from, next, start, end);
+            write_group(
+                group,
+                numbers,
+                certainties,
+                n,
+                starts,
+                ends,
+                keys,
+                confidences,
+            );
+            from = next;
+            start = end;
+            n = n + 1;
+        }
+        j = next;
+    }
+    let group = group_of(from, found, start, duration);
+    write_group(
+        group,
+        numbers,
+        certainties,
+        n,
+        starts,
+        ends,
+        keys,
+        confidences,
+    );
+    n + 1
+}

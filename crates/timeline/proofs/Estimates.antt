@@ -1,0 +1,30 @@
+-- Estimates in lent rows: each column's entry is that of its estimate, so the keys are numbers of keys and the rows read back as what was put there.
+use mathlib.Core.Path.{_≡_, _∙_}
+use mathlib.Core.List.{List}
+use Prim.Native.Nat.{ℕ, _<_}
+use lib.ListN.{length, getD}
+use lib.Ieee.{nan}
+use Rattle.laws.proofs.Front.{list-same, list-own}
+use Rattle.laws.proofs.Column.{column-at}
+use Rattle.keys.specs.Numbers.{keyNumber}
+use Rattle.keys.proofs.Placed.{numbers-are-keys}
+use Rattle.timeline.specs.Estimates.{EstimateRows, holdingEstimates, estimateIn, estimatesIn, Numbered}
+use Rattle.timeline.specs.Estimates.{noEstimate}
+use Rattle.timeline.specs.declared.estimate.Estimate.{Estimate}
+
+pub rows-numbered : (found : List Estimate) (before : EstimateRows) → Numbered (holdingEstimates found before .keys) (length found)
+rows-numbered found before i h =
+    rw (column-at (λ (e : Estimate). keyNumber (e .key)) found (before .keys) i 0 noEstimate h) (numbers-are-keys .below (getD found i noEstimate .key))
+
+pub rows-read-back : (found : List Estimate) (before : EstimateRows) → estimatesIn (holdingEstimates found before) (length found) ≡ found
+unfolding estimateIn
+rows-read-back found before =
+    list-same (estimateIn (holdingEstimates found before)) (λ (i : ℕ). getD found i noEstimate) (length found) same ∙ list-own found noEstimate
+  where
+    same : (i : ℕ) → i < length found → estimateIn (holdingEstimates found before) i ≡ getD found i noEstimate
+    same i h = rw (
+      column-at (λ (e : Estimate). e .centre) found (before .centres) i nan noEstimate h,
+      column-at (λ (e : Estimate). keyNumber (e .key)) found (before .keys) i 0 noEstimate h,
+      column-at (λ (e : Estimate). e .confidence) found (before .confidences) i nan noEstimate h,
+      numbers-are-keys .key-back (getD found i noEstimate .key),
+    )

@@ -1,0 +1,61 @@
+-- What the calls ensure, put together.
+use borrow.Author.Needs.{needs}
+use Rattle.timeline.proofs.segment.put_segment.Statement.{statement}
+use Rattle.timeline.proofs.segment.put_segment.Tie as tie
+
+mul-starts : tie.Need-mul-starts
+mul-starts c = search needs
+
+slice-write-starts : tie.Need-slice-write-starts
+slice-write-starts c = search needs
+
+mul-ends : tie.Need-mul-ends
+mul-ends c = search needs
+
+slice-write-ends : tie.Need-slice-write-ends
+slice-write-ends c = search needs
+
+key-number-requires : tie.Need-key-number-requires
+key-number-requires c κs = search needs
+
+slice-write-keys : tie.Need-slice-write-keys
+slice-write-keys c = search needs
+
+mul-confidences : tie.Need-mul-confidences
+mul-confidences c = search needs
+
+slice-write-confidences : tie.Need-slice-write-confidences
+slice-write-confidences c = search needs
+
+same-length : tie.Need-same-length
+same-length c = search needs
+
+same-length-2 : tie.Need-same-length-2
+same-length-2 c = search needs
+
+same-length-3 : tie.Need-same-length-3
+same-length-3 c = search needs
+
+same-length-4 : tie.Need-same-length-4
+same-length-4 c = search needs
+
+returns : tie.Need-returns
+returns c = cc
+
+pub put-segment-spec : {M : Type 1} → statement M
+put-segment-spec =
+    tie.close
+    (tie.spec
+    mul-starts
+    slice-write-starts
+    mul-ends
+    slice-write-ends
+    key-number-requires
+    slice-write-keys
+    mul-confidences
+    slice-write-confidences
+    same-length
+    same-length-2
+    same-length-3
+    same-length-4
+    returns)

@@ -1,0 +1,95 @@
+-- A stretch of time with one key, [start, end) in seconds, and such segments in lent rows: four slices side by side, with keys by number. Definitions only.
+use Prim.Native.Nat.{ℕ, _≤_}
+use mathlib.Core.Bool.{Bool}
+use mathlib.Core.List.{List, map}
+use lib.ListN.{length, getD, set}
+use denote.Ref.{RefT, now}
+use lib.Ieee.{Float, nan, binary64, sub, lt}
+use Rattle.laws.specs.Front.{front, list}
+use Rattle.laws.specs.Values.{plusZero}
+use Rattle.laws.specs.Pick.{maximumNumber, minimumNumber}
+use Rattle.keys.specs.declared.Key.{Key}
+use Rattle.keys.specs.Numbers.{keyNumber, keyAt}
+use Rattle.timeline.specs.declared.segment.Segment.{Segment}
+
+-- a segment, from its parts
+abbrev pub segment : Float → Float → Key → Float → Segment
+segment start end key confidence = record { start = start; end = end; key = key; confidence = confidence }
+
+-- what a row holds that joining has emptied: zeros and key 0
+abbrev pub emptied : Segment
+emptied = segment plusZero plusZero (keyAt 0) plusZero
+
+-- a segment's length, as the Rust computes it
+unfoldable pub seconds : Segment → Float
+seconds s = sub binary64 (s .end) (s .start)
+
+-- shorter than the minimum
+unfoldable pub short : Float → Segment → Bool
+short least s = lt (seconds s) least
+
+-- two neighbours as one: it has the key and the confidence of the earlier one
+unfoldable pub joined : Segment → Segment → Segment
+joined earlier later =
+    segment (minimumNumber (later .start) (earlier .start)) (maximumNumber (later .end) (earlier .end)) (earlier .key) (earlier .confidence)
+
+-- segment i
+abbrev pub segmentAt : List Segment → ℕ → Segment
+segmentAt segments i = getD segments i emptied
+
+-- rows of segments
+pub record SegmentRows : Type 0 where
+  pub starts : List Float
+  pub ends : List Float
+  pub keys : List ℕ
+  pub confidences : List Float
+
+-- the same, from its parts
+abbrev pub segmentRows : List Float → List Float → List ℕ → List Float → SegmentRows
+segmentRows starts ends keys confidences = record { starts = starts; ends = ends; keys = keys; confidences = confidences }
+
+-- as a contract has it: what the references refer to
+abbrev pub lentSegments : RefT (List Float) → RefT (List Float) → RefT (List ℕ) → RefT (List Float) → SegmentRows
+lentSegments starts ends keys confidences = segmentRows (now starts) (now ends) (now keys) (now confidences)
+
+-- the rows with one segment put into place n
+abbrev pub putSegment : Segment → ℕ → SegmentRows → SegmentRows
+putSegment s n r =
+    segmentRows (set (r .starts) n (s .start)) (set (r .ends) n (s .end)) (set (r .keys) n (keyNumber (s .key))) (set (r .confidences) n (s .confidence))
+
+-- the rows once these segments stand in the first places
+abbrev pub holdingSegments : List Segment → SegmentRows → SegmentRows
+holdingSegments segments before =
+    segmentRows
+    (front (map (λ (s : Segment). s .start) segments) (before .starts))
+    (front (map (λ (s : Segment). s .end) segments) (before .ends))
+    (front (map (λ (s : Segment). keyNumber (s .key)) segments) (before .keys))
+    (front (map (λ (s : Segment). s .confidence) segments) (before .confidences))
+
+-- the segment in row i
+unfoldable pub segmentIn : SegmentRows → ℕ → Segment
+segmentIn r i = segment (getD (r .starts) i nan) (getD (r .ends) i nan) (keyAt (getD (r .keys) i 0)) (getD (r .confidences) i nan)
+
+-- the segments in the first rows
+abbrev pub segmentsIn : SegmentRows → ℕ → List Segment
+segmentsIn r count = list (segmentIn r) count
+
+-- so many rows are there
+pub record Room (before : SegmentRows) (count : ℕ) : Type 0 where
+  pub starts : count ≤ length (before .starts)
+  pub ends : count ≤ length (before .ends)
+  pub keys : count ≤ length (before .keys)
+  pub confidences : count ≤ length (before .confidences)
+
+-- how many segments there are, and the rows that hold them
+pub record Filled : Type 0 where
+  pub count : ℕ
+  pub rows : SegmentRows
+
+-- both together
+abbrev pub filled : ℕ → SegmentRows → Filled
+filled count rows = record { count = count; rows = rows }
+
+-- these segments stand in the first rows
+abbrev pub standing : List Segment → SegmentRows → Filled
+standing segments before = filled (length segments) (holdingSegments segments before)

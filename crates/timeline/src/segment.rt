@@ -1,0 +1,97 @@
+// A stretch of time with one key, and such segments in lent rows.
+ghost use mathlib.Core.Path.{_≡_};
+ghost use Prim.Native.Nat.{_<_};
+ghost use lib.ListN.{length};
+ghost use Rattle.timeline.specs.Segments.{emptied, seconds, short, joined, lentSegments, putSegment, segmentIn};
+use crate::stored::stored_key;
+use keys::Key;
+use keys::numbers::key_number;
+use numbers::double::larger;
+use numbers::double::smaller;
+
+// The Rust's KeySegment: [start, end) in seconds, its key and how sure that is.
+pub struct Segment {
+    pub start: f64,
+    pub end: f64,
+    pub key: Key,
+    pub confidence: f32,
+}
+
+// What a row holds that joining has emptied.
+pub fn emptied_segment() -> Segment
+    ensures { λ r. ⌜ r ≡ emptied ⌝ }
+{
+    let key = stored_key(0);
+    Segment {
+        start: 0.0,
+        end: 0.0,
+        key,
+        confidence: 0.0,
+    }
+}
+
+// A segment's length in seconds.
+pub fn segment_seconds(segment: Segment) -> f64
+    ensures { λ r. ⌜ r ≡ seconds segment ⌝ }
+{
+    segment.end - segment.start
+}
+
+// Whether a segment is shorter than the minimum.
+pub fn is_short(least: f64, segment: Segment) -> bool
+    ensures { λ r. ⌜ r ≡ short least segment ⌝ }
+{
+    segment_seconds(segment) < least
+}
+
+// Two neighbours as one, with the key and the confidence of the earlier one.
+pub fn join_segments(earlier: Segment, later: Segment) -> Segment
+    ensures { λ r. ⌜ r ≡ joined earlier later ⌝ }
+{
+    let key = earlier.key;
+    Segment {
+        start: smaller(later.start, earlier.start),
+        end: larger(later.end, earlier.end),
+        key,
+        confidence: earlier.confidence,
+    }
+}
+
+// A segment goes into place n of the lent rows.
+pub fn put_segment(
+    segment: Segment,
+    n: usize,
+    starts: &mut [f64],
+    ends: &mut [f64],
+    keys: &mut [u8],
+    confidences: &mut [f32],
+)
+    requires { ⌜ (n < length (now starts)) × (n < length (now ends)) × (n < length (now keys)) × (n < length (now confidences)) ⌝ }
+    ensures { λ _. ⌜ lentSegments (starts .exit) (ends .exit) (keys .exit) (confidences .exit) ≡ putSegment segment n (lentSegments (starts .entry) (ends .entry) (keys .entry) (confidences .entry)) ⌝ }
+{
+    let key = segment.key;
+    starts[n] = segment.start;
+    ends[n] = segment.end;
+    keys[n] = key_number(key);
+    confidences[n] = segment.confidence;
+}
+
+// The segment in row i.
+pub fn segment_at(
+    i: usize,
+    starts: &[f64],
+    ends: &[f64],
+    keys: &[u8],
+    confidences: &[f32],
+) -> Segment
+    requires { ⌜ (i < length (now starts)) × (i < length (now ends)) × (i < length (now keys)) × (i < length (now confidences)) ⌝ }
+    ensures { λ r. ⌜ r ≡ segmentIn (lentSegments (starts .entry) (ends .entry) (keys .entry) (confidences .entry)) i ⌝ }
+{
+    let key = stored_key(keys[i]);
+    Segment {
+        start: starts[i],
+        end: ends[i],
+        key,
+        confidence: confidences[i],
+    }
+}

@@ -1,0 +1,123 @@
+-- Laws of the run over windows, which the proof of `fill_estimates` cites: what a window leaves, then a law for each way out of a turn.
+use Prim.Native.Nat.{ℕ, _+_, _-_, _<_, _≤_}
+use mathlib.Core.Path.{_≡_, refl, sym, ap, subst, _∙_}
+use mathlib.Core.Bool.{Bool, true, false}
+use native.Mathlib.Omega.{arith}
+use borrow.Author.Tests.{lt-ltb, le-ltb}
+use lib.ListN.{length, length-append}
+use lib.Ieee.{Float, binary64, add}
+use Rattle.laws.specs.First.{first}
+use Rattle.laws.specs.Values.{plusZero}
+use Rattle.laws.proofs.First.{first-start, first-again, first-out, first-end}
+use Rattle.laws.proofs.Column.{Column, column-start, column-more}
+use Rattle.keys.specs.Numbers.{keyNumber}
+use Rattle.windows.specs.Span.{startOf}
+use Rattle.windows.specs.Gather.{Heard}
+use Rattle.timeline.specs.Estimates.{EstimateRows, estimateRows, holdingEstimates}
+use Rattle.windows.specs.Run.{estimateFrom, silent, estimatesBefore, stays, stuckAt, Written, wrote, windowWritten, ran, runTo, runOf, Ready}
+use Rattle.windows.specs.declared.span.Span.{Span}
+use Rattle.timeline.specs.declared.estimate.Estimate.{Estimate}
+use Rattle.windows.specs.declared.run.Estimated.{Estimated}
+use Rattle.windows.specs.declared.run.Estimated.the-variants.{All, Stuck}
+use Rattle.windows.proofs.Found.{after-silent, after-heard}
+use Rattle.windows.proofs.Starts.{start-first, start-next, stuck-here}
+
+same-rows : {a b : EstimateRows} → a .centres ≡ b .centres → a .keys ≡ b .keys → a .confidences ≡ b .confidences → a ≡ b
+same-rows p q r = λ i. estimateRows (p i) (q i) (r i)
+
+-- The n estimates of the windows before k stand in the lent rows.
+pub record Holds (s : Span) (h : Heard) (before now : EstimateRows) (k n : ℕ) : Type 0 where
+  pub count : n ≡ length (estimatesBefore s h k)
+  pub few : n ≤ k
+  pub centres : Column (λ (e : Estimate). e .centre) (estimatesBefore s h k) (before .centres) (now .centres)
+  pub keys : Column (λ (e : Estimate). keyNumber (e .key)) (estimatesBefore s h k) (before .keys) (now .keys)
+  pub confidences : Column (λ (e : Estimate). e .confidence) (estimatesBefore s h k) (before .confidences) (now .confidences)
+
+module _ {s : Span} {h : Heard} {before now : EstimateRows} {k n windows : ℕ} (ready : Ready h before windows) (inside : k < windows) (holds : Holds s h before now k n) where
+  -- of what a window leaves, by whether it is silent
+  left-by : (quiet : Bool) → silent s h (startOf s k) ≡ quiet → let w = windowWritten s h (startOf s k) n now in Holds s h before (w .rows) (k + 1) (w .count)
+  unfolding windowWritten
+  left-by true q =
+      let e = after-silent s h k q in
+      rw q (record {
+        count = holds .count ∙ ap length (sym e);
+        few = omega (arith, holds .few);
+        centres = rw e (holds .centres);
+        keys = rw e (holds .keys);
+        confidences = rw e (holds .confidences);
+      })
+  left-by false q =
+      let e = after-heard s h k q in
+      let found = estimateFrom s h (startOf s k) in
+      rw q (record {
+        count = rw e (simp length-append (omega (arith, holds .count)));
+        few = omega (arith, holds .few);
+        centres = rw e (column-more _ _ found n (holds .count) (omega (arith, ready .centres, holds .few)) (holds .centres));
+        keys = rw e (column-more _ _ found n (holds .count) (omega (arith, ready .keys, holds .few)) (holds .keys));
+        confidences = rw e (column-more _ _ found n (holds .count) (omega (arith, ready .confidences, holds .few)) (holds .confidences));
+      })
+
+  holds-next : {start : Float} {m : ℕ} {after : EstimateRows} → start ≡ startOf s k → wrote m after ≡ windowWritten s h start n now → Holds s h before after (k + 1) m
+  holds-next at e = subst (λ (w : Written). Holds s h before (w .rows) (k + 1) (w .count)) (sym (e ∙ ap (λ (x : Float). windowWritten s h x n now) at)) (left-by (silent s h (startOf s k)) refl)
+
+-- The run has come to window k: after no earlier one the start stayed.
+pub record Reached (s : Span) (h : Heard) (windows : ℕ) (before now : EstimateRows) (start : Float) (k n : ℕ) : Type 0 where
+  pub ready : Ready h before windows
+  pub at : start ≡ startOf s k
+  pub upto : k ≤ windows
+  pub ahead : first (stuckAt s) (windows - k) k ≡ first (stuckAt s) windows 0
+  pub holds : Holds s h before now k n
+
+pub reached-start : (s : Span) {h : Heard} {windows : ℕ} {before : EstimateRows} → Ready h before windows → Reached s h windows before before plusZero 0 0
+unfolding estimatesBefore
+reached-start s {h} {windows} {before} ready =
+    record {
+      ready = ready;
+      at = start-first s;
+      upto = omega arith;
+      ahead = first-start (stuckAt s) windows;
+      holds = record {
+        count = refl;
+        few = omega arith;
+        centres = column-start _ _;
+        keys = column-start _ _;
+        confidences = column-start _ _;
+      };
+    }
+
+-- what is held where the run ends at k
+held-at : {now : EstimateRows} {s : Span} {h : Heard} {before : EstimateRows} {k n : ℕ} (answer : ℕ → Estimated) → Holds s h before now k n → let found = estimatesBefore s h k in ran (answer n) now ≡ ran (answer (length found)) (holdingEstimates found before)
+held-at {now} answer holds =
+    ap (λ (m : ℕ). ran (answer m) now) (holds .count) ∙ ap (ran _) (same-rows (holds .centres .here) (holds .keys .here) (holds .confidences .here))
+
+module _ {s : Span} {h : Heard} {windows : ℕ} {before now : EstimateRows} {start : Float} {k n : ℕ} (reached : Reached s h windows before now start k n) where
+  pub reached-held : {m : ℕ} {after : EstimateRows} → k < windows → wrote m after ≡ windowWritten s h start n now → Holds s h before after (k + 1) m
+  reached-held inside e = holds-next (reached .ready) inside (reached .holds) (reached .at) e
+
+  pub reached-again : {m : ℕ} {after : EstimateRows} → k < windows → wrote m after ≡ windowWritten s h start n now → stays s start ≡ false → Reached s h windows before after (add binary64 start (s .hop)) (k + 1) m
+  reached-again inside e grows =
+      record {
+        ready = reached .ready;
+        at = start-next s k (reached .at);
+        upto = omega arith;
+        ahead = first-again (stuckAt s) windows k (reached .ahead) inside (stuck-here s k (reached .at) grows);
+        holds = reached-held inside e;
+      }
+
+  pub reached-stuck : {m : ℕ} {after : EstimateRows} → k < windows → wrote m after ≡ windowWritten s h start n now → stays s start ≡ true → ran (Stuck m) after ≡ runOf s h windows before
+  unfolding runOf
+  reached-stuck inside e stuck =
+      let found = estimatesBefore s h (k + 1) in
+      let told : ran (Stuck (length found)) (holdingEstimates found before) ≡ runTo s h windows k before = rw (lt-ltb k windows inside) in
+      held-at Stuck (reached-held inside e)
+      ∙ told
+      ∙ ap (λ (j : ℕ). runTo s h windows j before) (first-out (stuckAt s) windows k (reached .ahead) inside (stuck-here s k (reached .at) stuck))
+
+  pub reached-end : windows ≤ k → ran (All n) now ≡ runOf s h windows before
+  unfolding runOf
+  reached-end all =
+      let found = estimatesBefore s h k in
+      let told : ran (All (length found)) (holdingEstimates found before) ≡ runTo s h windows k before = rw (le-ltb k windows all) in
+      held-at All (reached .holds)
+      ∙ told
+      ∙ ap (λ (j : ℕ). runTo s h windows j before) (first-end (stuckAt s) windows k (reached .ahead) all)

@@ -1,0 +1,6 @@
+pub mod Span
+pub mod Gather
+pub mod Estimates
+pub mod Run
+pub mod Budget
+pub mod Rising

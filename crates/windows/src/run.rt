@@ -1,0 +1,82 @@
+// The run over the windows: their estimates go into the lent rows, from the front.
+ghost use mathlib.Core.Path.{_≡_};
+ghost use Prim.Native.Nat.{_+_, _<_, _≤_, _^_};
+ghost use lib.ListN.{length};
+ghost use Rattle.windows.specs.Gather.{heard};
+ghost use Rattle.timeline.specs.Estimates.{lentEstimates};
+ghost use Rattle.windows.specs.Run.{windowWritten, wrote, ran, runOf, Ready};
+use crate::estimate::estimate_of;
+use crate::gather::gather_frames;
+use crate::span::Span;
+use timeline::estimate::put_estimate;
+
+// What the run says: all windows with so many estimates, or a start that did not grow with so many before it.
+pub enum Estimated {
+    All(usize),
+    Stuck(usize),
+}
+
+// The estimate of the window from `start` goes into place n; returns how many there are then.
+fn write_window(
+    span: Span,
+    start: f64,
+    frames: usize,
+    centres: &[f64],
+    values: &[[f32; 12]],
+    n: usize,
+    middles: &mut [f64],
+    keys: &mut [u8],
+    confidences: &mut [f32],
+) -> usize
+    requires { ⌜ (frames ≤ length (now centres)) × (frames ≤ length (now values)) × (n < length (now middles)) × (n < length (now keys)) × (n < length (now confidences)) ⌝ }
+    ensures { λ r. ⌜ wrote r (lentEstimates (middles .exit) (keys .exit) (confidences .exit)) ≡ windowWritten span (heard frames (now (centres .entry)) (now (values .entry))) start n (lentEstimates (middles .entry) (keys .entry) (confidences .entry)) ⌝ }
+{
+    let found = gather_frames(start, start + span.window, frames, centres, values);
+    if found.frames == 0 {
+        return n;
+    }
+    let chroma = found.chroma;
+    let estimate = estimate_of(start + span.window / 2.0, chroma);
+    put_estimate(estimate, n, middles, keys, confidences);
+    n + 1
+}
+
+// Every window in turn, up to the first after which the start did not grow.
+pub fn fill_estimates(
+    span: Span,
+    windows: usize,
+    frames: usize,
+    centres: &[f64],
+    values: &[[f32; 12]],
+    middles: &mut [f64],
+    keys: &mut [u8],
+    confidences: &mut [f32],
+) -> Estimated
+    requires { ⌜ Ready (heard frames (now centres) (now values)) (lentEstimates middles keys confidences) windows ⌝ }
+    ensures { λ r. ⌜ ran r (lentEstimates (middles .exit) (keys .exit) (confidences .exit)) ≡ runOf span (heard frames (now (centres .entry)) (now (values .entry))) windows (lentEstimates (middles .entry) (keys .entry) (confidences .entry)) ⌝ }
+{
+    let mut start = 0.0;
+    let mut k = 0;
+    let mut n = 0;
+    while k < windows {
+        let next = k + 1;
+        n = write_window(
+            span,
+            start,
+            frames,
+            centres,
+            values,
+            n,
+            middles,
+            keys,
+            confidences,
+        );
+        let later = start + span.hop;
+        if !(start < later) {
+            return Estimated::Stuck(n);
+        }
+        start = later;
+        k = next;
+    }
+    Estimated::All(n)
+}
