@@ -10,36 +10,13 @@ use Rattle.laws.specs.Turns.{turns}
 use Rattle.laws.specs.Values.{plusZero}
 use Rattle.laws.proofs.Turns.{turns-start, turns-again, turns-end}
 use Rattle.laws.proofs.Front.{length-list, getD-list}
-use Rattle.laws.proofs.Column.{Column, column-start, column-more}
-use Rattle.keys.specs.Numbers.{keyNumber}
 use Rattle.timeline.specs.Estimates.{EstimateRows, Found, estimateIn, estimatesIn, noEstimate}
-use Rattle.timeline.specs.Segments.{SegmentRows, segmentRows, Room, filled, standing, putSegment, holdingSegments}
+use Rattle.timeline.specs.Segments.{SegmentRows, Room, filled, standing, putSegment, holdingSegments}
 use Rattle.timeline.specs.declared.estimate.Estimate.{Estimate}
 use Rattle.timeline.specs.declared.segment.Segment.{Segment}
+use Rattle.timeline.proofs.Segments.{Holds, holds-start, holds-more, holds-all}
 use Rattle.groups.specs.Groups.{between, splits, grouped, groupOf, borderOf, estimateAt, Cutting, cutting, cutTurn, closed, groupsOf}
 use Rattle.groups.proofs.Parts.{group-in-rows}
-
--- the rows hold these segments in front of what stood there
-pub record Holds (done : List Segment) (before now : SegmentRows) : Type 0 where
-  pub starts : Column (λ (s : Segment). s .start) done (before .starts) (now .starts)
-  pub ends : Column (λ (s : Segment). s .end) done (before .ends) (now .ends)
-  pub keys : Column (λ (s : Segment). keyNumber (s .key)) done (before .keys) (now .keys)
-  pub confidences : Column (λ (s : Segment). s .confidence) done (before .confidences) (now .confidences)
-
-holds-start : (before : SegmentRows) → Holds [] before before
-holds-start before = record { starts = column-start _ _; ends = column-start _ _; keys = column-start _ _; confidences = column-start _ _ }
-
-holds-more : (done : List Segment) (s : Segment) (before now : SegmentRows) (n : ℕ) → n ≡ length done → Room before (n + 1) → Holds done before now → Holds (done ++ (s ∷ [])) before (putSegment s n now)
-holds-more done s before now n e room h =
-    record {
-      starts = column-more _ _ s n e (omega (arith, room .starts)) (h .starts);
-      ends = column-more _ _ s n e (omega (arith, room .ends)) (h .ends);
-      keys = column-more _ _ s n e (omega (arith, room .keys)) (h .keys);
-      confidences = column-more _ _ s n e (omega (arith, room .confidences)) (h .confidences);
-    }
-
-holds-all : (done : List Segment) (before now : SegmentRows) → Holds done before now → now ≡ holdingSegments done before
-holds-all done before now h = λ i. segmentRows (h .starts .here i) (h .ends .here i) (h .keys .here i) (h .confidences .here i)
 
 -- Cutting has come to estimate j: n segments are cut off and stand in the rows, and a group is being gathered.
 pub record Cut (rows : EstimateRows) (threshold : Float) (found : ℕ) (before now : SegmentRows) (from : ℕ) (start : Float) (n j : ℕ) : Type 0 where

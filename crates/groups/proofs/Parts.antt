@@ -1,13 +1,13 @@
 -- Laws of estimates in lent rows: the numbers and the confidences of a group are entries of the rows' own slices.
 use mathlib.Core.Path.{_≡_, refl, sym, ap, _∙_}
-use mathlib.Core.List.{List, [], _∷_, _++_, map, map-append}
-use Prim.Native.Nat.{ℕ, zero, suc, _-_, _<_, _≤_}
+use mathlib.Core.List.{List, _++_, map}
+use Prim.Native.Nat.{ℕ, _-_, _<_, _≤_}
 use native.Mathlib.Omega.{arith}
 use lib.ListN.{length, getD, take, drop, length-drop}
 use lib.Seq.{take-append-le, drop-append-le}
 use lib.Ieee.{Float, nan}
 use Rattle.laws.specs.Front.{list}
-use Rattle.laws.proofs.Front.{length-list, list-same, front-own}
+use Rattle.laws.proofs.Front.{length-list, list-same, map-list, front-own}
 use Rattle.keys.specs.Numbers.{keyNumber}
 use Rattle.keys.proofs.Placed.{numbers-are-keys}
 use Rattle.timeline.specs.Estimates.{EstimateRows, Found, estimateIn, estimatesIn}
@@ -19,11 +19,6 @@ part-of-first : {A : Type 0} (xs ys : List A) (from to : ℕ) → from ≤ to �
 part-of-first xs ys from to h k =
     let room : to - from ≤ length (drop from xs) = rw length-drop (omega arith) in
     ap (take (to - from)) (drop-append-le from xs ys (omega arith)) ∙ take-append-le (to - from) (drop from xs) ys room
-
-map-list : {A B : Type 0} (f : A → B) (g : ℕ → A) (n : ℕ) → map f (list g n) ≡ list (λ (i : ℕ). f (g i)) n
-unfolding list
-map-list f g zero = refl
-map-list f g (suc n) = map-append f (list g n) (g n ∷ []) ∙ ap (λ (l : List _). l ++ (f (g n) ∷ [])) (map-list f g n)
 
 -- a part of what the first n entries of xs are made of is a part of xs
 part-of-rows : {A B : Type 0} (f : B → A) (g : ℕ → B) (xs : List A) (d : A) (n from to : ℕ) → ((i : ℕ) → i < n → f (g i) ≡ getD xs i d) → from ≤ to → to ≤ n → n ≤ length xs

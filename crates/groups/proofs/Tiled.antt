@@ -22,14 +22,14 @@ use Rattle.timeline.specs.Estimates.{centreAt, Rising}
 use Rattle.timeline.specs.Segments.{segment}
 use Rattle.timeline.specs.Tiling.{Tiles}
 use Rattle.timeline.specs.declared.estimate.Estimate.{Estimate}
-use Rattle.timeline.proofs.Tilings.{Starts, Joined, joined-more, joined→tiles}
+use Rattle.timeline.proofs.Tilings.{Starts, Chain, chain-more, chain→tiles}
 use Rattle.groups.specs.Groups.{grouped, groupOf, borderOf, estimateAt, splits, Cutting, cutting, cutTurn, closed, groupsOf, firstSegments}
 use Rattle.groups.specs.Tiled.{GroupsTile}
 
 module _ (threshold duration : Float) (found : List Estimate) (whole : Modest binary64 duration) (rising : Rising duration found) where
   -- what cutting has come to at estimate j
   record Upto (j : ℕ) (c : Cutting) : Type 0 where
-    tiled : Joined plusZero (c .start) (c .done)
+    tiled : Chain plusZero (c .start) (c .done)
     begun : T (le (c .start) (centreAt found j))
 
   -- the segment of a group starts where the one before it ended
@@ -49,7 +49,7 @@ module _ (threshold duration : Float) (found : List Estimate) (whole : Modest bi
   upto-more j c h u =
       by-test (Upto (j + 1)) (splits threshold (estimateAt found j) (estimateAt found (j + 1)))
       (λ _. record {
-        tiled = subst (λ (x : Float). Joined plusZero x (c .done ++ (groupOf found (c .from) (j + 1) (c .start) border ∷ []))) (group-end (c .from) (j + 1) (c .start) border) (joined-more plusZero (c .start) (c .done) (groupOf found (c .from) (j + 1) (c .start) border) (u .tiled) (group-starts (c .from) (j + 1) (c .start) border time onward));
+        tiled = subst (λ (x : Float). Chain plusZero x (c .done ++ (groupOf found (c .from) (j + 1) (c .start) border ∷ []))) (group-end (c .from) (j + 1) (c .start) border) (chain-more plusZero (c .start) (c .done) (groupOf found (c .from) (j + 1) (c .start) border) (u .tiled) (group-starts (c .from) (j + 1) (c .start) border time onward));
         begun = midpoint-below binary64 here next m m' up;
       })
       (λ _. record { tiled = u .tiled; begun = le-trans (c .start) here next (u .begun) up })
@@ -93,13 +93,13 @@ module _ (threshold duration : Float) (found : List Estimate) (whole : Modest bi
       let s = groupOf found (c .from) (length found) (c .start) duration in
       let last = group-starts (c .from) (length found) (c .start) duration (whole .held) (le-trans (c .start) (centreAt found j) duration (u .begun) (rising .inside j less)) in
       let some : 0 < length (c .done ++ (s ∷ [])) = simp length-append (omega arith) in
-      joined→tiles duration (closed found duration c) some (subst (λ (x : Float). Joined plusZero x (c .done ++ (s ∷ []))) (group-end (c .from) (length found) (c .start) duration) (joined-more plusZero (c .start) (c .done) s (u .tiled) last))
+      chain→tiles duration (closed found duration c) some (subst (λ (x : Float). Chain plusZero x (c .done ++ (s ∷ []))) (group-end (c .from) (length found) (c .start) duration) (chain-more plusZero (c .start) (c .done) s (u .tiled) last))
 
 pub groups-tile : GroupsTile
 unfolding firstSegments
 groups-tile threshold duration key confidence [] whole rising =
     let onward = plusZero-least duration (nonneg→clear duration (whole .held .at-least-zero)) in
-    joined→tiles duration (segment plusZero duration key confidence ∷ []) (zero-lt-suc 0) (record { at = refl; until = whole .held; onward = onward }, refl)
+    chain→tiles duration (segment plusZero duration key confidence ∷ []) (zero-lt-suc 0) (record { at = refl; until = whole .held; onward = onward }, refl)
 groups-tile threshold duration key confidence (e ∷ r) whole rising =
     let some : eqb (length (e ∷ r)) 0 ≡ false = ne-eqb (length (e ∷ r)) 0 (λ z. omega (arith, z)) in
     rw some (groups-tiled threshold duration (e ∷ r) whole rising (zero-lt-suc (length r)))

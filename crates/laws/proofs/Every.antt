@@ -25,3 +25,7 @@ every-more test i e = ap (λ (b : Bool). b && test i) e ∙ rw (add-one, every)
 
 pub every-all : (test : ℕ → Bool) (i n : ℕ) {sofar : Bool} → sofar ≡ every test i → i ≡ n → sofar ≡ every test n
 every-all test i n e h = e ∙ ap (every test) h
+
+-- what holds below n, and at n, holds below n + 1
+pub and-last : (P : ℕ → Type 0) (n : ℕ) → ((j : ℕ) → j < n → P j) → P n → (j : ℕ) → j < suc n → P j
+and-last P n before last j less = elim (eq-or-lt-of-le (le-of-suc-le-suc less)) [ inl e ↦ subst P (sym e) last | inr l ↦ before j l ]

@@ -7,6 +7,7 @@ use Prim.Native.Nat.{ℕ, zero, suc, _+_, _-_, _<_, _≤_}
 use native.Mathlib.Nat.{add-zero, not-suc-le-zero, le-of-suc-le-suc, eq-or-lt-of-le}
 use native.Mathlib.Omega.{arith}
 use Rattle.laws.specs.First.{first}
+use Rattle.laws.proofs.Cases.{by-test}
 use Rattle.laws.proofs.Turns.{one-less, none-left, all-left}
 
 pub first-start : (test : ℕ → Bool) (n : ℕ) → first test (n - 0) 0 ≡ first test n 0
@@ -59,3 +60,29 @@ first-or-end test (suc n) i = either (test i) refl (first-or-end test n (i + 1))
     either true e rest = inl e
     either false e (inl passes) = inl passes
     either false e (inr none) = inr (omega (arith, none))
+
+-- a search stays within its bounds
+pub first-within : (test : ℕ → Bool) (n i : ℕ) → first test n i ≤ i + n
+unfolding first
+first-within test zero i = omega arith
+first-within test (suc n) i = by-test (λ (k : ℕ). k ≤ i + suc n) (test i) (λ _. omega arith) (λ _. let rest = first-within test n (i + 1) in omega (arith, rest))
+
+-- two tests that agree find the same
+pub first-same : (test other : ℕ → Bool) (n i : ℕ) → ((k : ℕ) → k < n → test (i + k) ≡ other (i + k)) → first test n i ≡ first other n i
+unfolding first
+first-same test other zero i same = refl
+first-same test other (suc n) i same =
+    let here : test i ≡ other i = ap test (sym (add-zero i)) ∙ same 0 (omega arith) ∙ ap other (add-zero i) in
+    let rest : first test n (i + 1) ≡ first other n (i + 1) = first-same test other n (i + 1) (λ k less. let next : i + 1 + k ≡ i + (k + 1) = omega arith in ap test next ∙ same (k + 1) (omega (arith, less)) ∙ ap other (sym next)) in
+    rw (here, rest)
+
+-- a search comes to the end, or finds one that passes
+pub first-found : (test : ℕ → Bool) (n i : ℕ) → (first test n i ≡ i + n) ⊎ ((k : ℕ) × (k < n) × (test (i + k) ≡ true))
+unfolding first
+first-found test zero i = inl (sym (add-zero i))
+first-found test (suc n) i = either (test i) refl (first-found test n (i + 1))
+  where
+    either : (b : Bool) → test i ≡ b → (first test n (i + 1) ≡ i + 1 + n) ⊎ ((k : ℕ) × (k < n) × (test (i + 1 + k) ≡ true)) → (cond b i (first test n (i + 1)) ≡ i + suc n) ⊎ ((k : ℕ) × (k < suc n) × (test (i + k) ≡ true))
+    either true e rest = inr (0, omega arith, ap test (add-zero i) ∙ e)
+    either false e (inl all) = let far : i + 1 + n ≡ i + suc n = omega arith in inl (all ∙ far)
+    either false e (inr (k, less, passes)) = let next : i + suc k ≡ i + 1 + k = omega arith in inr (suc k, omega (arith, less), ap test next ∙ passes)

@@ -1,6 +1,6 @@
 -- Laws of a slice that is written from the front.
 use mathlib.Core.Path.{_≡_, refl, sym, ap, _∙_}
-use mathlib.Core.List.{List, [], _∷_, _++_, append-assoc, append-nil}
+use mathlib.Core.List.{List, [], _∷_, _++_, map, append-assoc, append-nil, map-append}
 use Prim.Native.Nat.{ℕ, zero, suc, _+_, _-_, _<_, _≤_}
 use native.Mathlib.Numerals.{add-one}
 use native.Mathlib.Omega.{arith}
@@ -69,6 +69,11 @@ getD-list f (suc n) k d h =
       | inl e ↦ ap (λ (j : ℕ). getD (list f n ++ (f n ∷ [])) j d) (e ∙ sym (length-list f n)) ∙ getD-append-seam (list f n) (f n) [] d ∙ ap f (sym e)
       | inr l ↦ List·getD-append (list f n) (f n ∷ []) d k (rw length-list l) ∙ getD-list f n k d l
     ]
+
+pub map-list : {A B : Type 0} (f : A → B) (g : ℕ → A) (n : ℕ) → map f (list g n) ≡ list (λ (i : ℕ). f (g i)) n
+unfolding list
+map-list f g zero = refl
+map-list f g (suc n) = map-append f (list g n) (g n ∷ []) ∙ ap (λ (l : List _). l ++ (f (g n) ∷ [])) (map-list f g n)
 
 -- a second list as long as the first takes its places
 pub front-front : {A : Type 0} (xs ys m : List A) → length xs ≡ length ys → front xs (front ys m) ≡ front xs m

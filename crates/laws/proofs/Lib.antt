@@ -6,6 +6,7 @@ pub mod Front
 pub mod Every
 pub mod Column
 pub mod Table
+pub mod Leader
 pub mod Cases
 pub mod Signs
 pub mod Patterns

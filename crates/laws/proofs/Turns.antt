@@ -1,6 +1,6 @@
 -- What the proof of a counted loop cites. A loop `while i < n` has the invariant `turns step (n - i) i s ≡ t`, with t its result:
 -- `turns-start` where it begins, `turns-again` after a turn, `turns-end` where it ends.
-use mathlib.Core.Path.{_≡_, sym, ap, _∙_}
+use mathlib.Core.Path.{_≡_, sym, ap, subst, _∙_}
 use Prim.Native.Nat.{ℕ, zero, suc, _+_, _-_, _<_, _≤_}
 use native.Mathlib.Numerals.{add-one}
 use native.Mathlib.Nat.{add-zero, zero-add}
@@ -38,3 +38,11 @@ last-turn step (suc n) i s = last-turn step n (i + 1) (step i s) ∙ ap (λ (k :
 
 pub turns-last : {S : Type 0} (step : ℕ → S → S) (n : ℕ) (s : S) → turns step (n + 1) 0 s ≡ step n (turns step n 0 s)
 turns-last step n s = ap (λ (k : ℕ). turns step k 0 s) (add-one n) ∙ last-turn step n 0 s ∙ ap (λ (k : ℕ). step k (turns step n 0 s)) (zero-add n)
+
+-- what holds at the start, and is kept by each turn, holds after n turns
+pub turns-keep : {S : Type 0} (P : ℕ → S → Type 0) (step : ℕ → S → S) (s : S) → P 0 s → ((i : ℕ) (x : S) → P i x → P (suc i) (step i x)) → (n : ℕ) → P n (turns step n 0 s)
+unfolding turns
+turns-keep P step s start more zero = start
+turns-keep P step s start more (suc n) =
+    let last : turns step (suc n) 0 s ≡ step n (turns step n 0 s) = ap (λ (k : ℕ). turns step k 0 s) (sym (add-one n)) ∙ turns-last step n s in
+    subst (P (suc n)) (sym last) (more n (turns step n 0 s) (turns-keep P step s start more n))

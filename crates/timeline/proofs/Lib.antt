@@ -1,2 +1,3 @@
 pub mod Tilings
 pub mod Estimates
+pub mod Segments

@@ -1,7 +1,7 @@
 -- Tiling from one time to another, segment by segment, as a list is built and joined; and the way to demand 3's words, which go by index.
-use mathlib.Core.Path.{_≡_, refl, sym, subst, _∙_}
-use Prim.Native.Nat.{ℕ, zero, suc, _+_, _<_}
-use native.Mathlib.Nat.{not-suc-le-zero, le-of-suc-le-suc}
+use mathlib.Core.Path.{_≡_, refl, sym, ap, subst, _∙_}
+use Prim.Native.Nat.{ℕ, zero, suc, _+_, _<_, suc-le-suc}
+use native.Mathlib.Nat.{zero-lt-suc, not-suc-le-zero, le-of-suc-le-suc}
 use native.Mathlib.Numerals.{add-one}
 use native.Mathlib.Omega.{arith}
 use mathlib.Core.List.{List, [], _∷_, _++_}
@@ -20,38 +20,38 @@ pub record Starts (from : Float) (s : Segment) : Type 0 where
   pub onward : T (le from (s .end))
 
 -- each segment starts where the one before it ends
-abbrev pub Joined : Float → Float → List Segment → Type 0
-Joined from to [] = from ≡ to
-Joined from to (s ∷ r) = Starts from s × Joined (s .end) to r
+abbrev pub Chain : Float → Float → List Segment → Type 0
+Chain from to [] = from ≡ to
+Chain from to (s ∷ r) = Starts from s × Chain (s .end) to r
 
 -- one more behind them
-pub joined-more : (from mid : Float) (segments : List Segment) (s : Segment) → Joined from mid segments → Starts mid s → Joined from (s .end) (segments ++ (s ∷ []))
-joined-more from mid [] s j p = (subst (λ (x : Float). Starts x s) (sym j) p, refl)
-joined-more from mid (x ∷ r) s j p = (j .0, joined-more (x .end) mid r s (j .1) p)
+pub chain-more : (from mid : Float) (segments : List Segment) (s : Segment) → Chain from mid segments → Starts mid s → Chain from (s .end) (segments ++ (s ∷ []))
+chain-more from mid [] s j p = (subst (λ (x : Float). Starts x s) (sym j) p, refl)
+chain-more from mid (x ∷ r) s j p = (j .0, chain-more (x .end) mid r s (j .1) p)
 
--- ---- by index
-starts-at : (from to : Float) (segments : List Segment) (i : ℕ) → i < length segments → Joined from to segments → (at : Float) × Starts at (segmentAt segments i)
+-- ---- from a chain to tiling
+starts-at : (from to : Float) (segments : List Segment) (i : ℕ) → i < length segments → Chain from to segments → (at : Float) × Starts at (segmentAt segments i)
 starts-at from to [] i h j = absurd (not-suc-le-zero h)
 starts-at from to (s ∷ r) zero h j = (from, j .0)
 starts-at from to (s ∷ r) (suc i) h j = starts-at (s .end) to r i (le-of-suc-le-suc h) (j .1)
 
-first-start : (from to : Float) (segments : List Segment) → 0 < length segments → Joined from to segments → segmentAt segments 0 .start ≡ from
+first-start : (from to : Float) (segments : List Segment) → 0 < length segments → Chain from to segments → segmentAt segments 0 .start ≡ from
 first-start from to [] h j = absurd (not-suc-le-zero h)
 first-start from to (s ∷ r) h j = j .0 .at
 
-next-start : (from to : Float) (segments : List Segment) (i : ℕ) → suc i < length segments → Joined from to segments → segmentAt segments (suc i) .start ≡ segmentAt segments i .end
+next-start : (from to : Float) (segments : List Segment) (i : ℕ) → suc i < length segments → Chain from to segments → segmentAt segments (suc i) .start ≡ segmentAt segments i .end
 next-start from to [] i h j = absurd (not-suc-le-zero h)
 next-start from to (s ∷ r) zero h j = first-start (s .end) to r (le-of-suc-le-suc h) (j .1)
 next-start from to (s ∷ r) (suc i) h j = next-start (s .end) to r i (le-of-suc-le-suc h) (j .1)
 
-last-end : (from to : Float) (segments : List Segment) (i : ℕ) → suc i ≡ length segments → Joined from to segments → segmentAt segments i .end ≡ to
+last-end : (from to : Float) (segments : List Segment) (i : ℕ) → suc i ≡ length segments → Chain from to segments → segmentAt segments i .end ≡ to
 last-end from to [] i e j = absurd (omega (arith, e))
 last-end from to (s ∷ []) zero e j = j .1
 last-end from to (s ∷ x ∷ r) zero e j = absurd (omega (arith, e))
 last-end from to (s ∷ r) (suc i) e j = last-end (s .end) to r i (omega (arith, e)) (j .1)
 
-pub joined→tiles : (duration : Float) (segments : List Segment) → 0 < length segments → Joined plusZero duration segments → Tiles duration segments
-joined→tiles duration segments some j =
+pub chain→tiles : (duration : Float) (segments : List Segment) → 0 < length segments → Chain plusZero duration segments → Tiles duration segments
+chain→tiles duration segments some j =
     record {
       some = some;
       times = λ i h. starts-at plusZero duration segments i h j .1 .until;
@@ -67,3 +67,26 @@ joined→tiles duration segments some j =
 
     forward : (i : ℕ) → i < length segments → T (le (segmentAt segments i .start) (segmentAt segments i .end))
     forward i h = let s = starts-at plusZero duration segments i h j in subst (λ (x : Float). T (le x (segmentAt segments i .end))) (sym (s .1 .at)) (s .1 .onward)
+
+-- ---- from tiling to a chain
+chained : (from to : Float) (s : Segment) (r : List Segment)
+    → s .start ≡ from
+    → ((i : ℕ) → i < length (s ∷ r) → Held binary64 (segmentAt (s ∷ r) i .end))
+    → ((i : ℕ) → suc i < length (s ∷ r) → segmentAt (s ∷ r) (suc i) .start ≡ segmentAt (s ∷ r) i .end)
+    → ((i : ℕ) → suc i ≡ length (s ∷ r) → segmentAt (s ∷ r) i .end ≡ to)
+    → ((i : ℕ) → i < length (s ∷ r) → T (le (segmentAt (s ∷ r) i .start) (segmentAt (s ∷ r) i .end)))
+    → Chain from to (s ∷ r)
+chained from to s [] at times next last forward =
+    (record { at = at; until = times 0 (zero-lt-suc 0); onward = subst (λ (x : Float). T (le x (s .end))) at (forward 0 (zero-lt-suc 0)) }, last 0 refl)
+chained from to s (t ∷ r) at times next last forward = (
+  record { at = at; until = times 0 (zero-lt-suc _); onward = subst (λ (x : Float). T (le x (s .end))) at (forward 0 (zero-lt-suc _)) },
+  chained (s .end) to t r (next 0 (suc-le-suc (zero-lt-suc _))) (λ i h. times (suc i) (suc-le-suc h)) (λ i h. next (suc i) (suc-le-suc h)) (λ i e. last (suc i) (ap suc e)) (λ i h. forward (suc i) (suc-le-suc h)),
+)
+
+pub tiles→chain : (duration : Float) (segments : List Segment) → Tiles duration segments → Chain plusZero duration segments
+tiles→chain duration [] t = absurd (not-suc-le-zero (t .some))
+tiles→chain duration (s ∷ r) t =
+    chained plusZero duration s r (t .first-start) (t .times)
+    (λ i h. ap (λ (k : ℕ). segmentAt (s ∷ r) k .start) (sym (add-one i)) ∙ t .next-start i (rw (add-one i) h))
+    (λ i e. t .last-end i (add-one i ∙ e))
+    (t .forward)

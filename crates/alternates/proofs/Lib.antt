@@ -1,0 +1,7 @@
+-- What the functions' proofs share, on plain values, and the theorems.
+mod Rows
+mod Branches
+mod Sums
+pub mod Reported
+pub mod Tiled
+pub mod Named

@@ -1,0 +1,3 @@
+// The reported key of several segments, and the alternate key beside it.
+pub mod alternate;
+pub mod longest;

@@ -1,0 +1,3 @@
+mod Fills
+mod Locates
+pub mod Demand

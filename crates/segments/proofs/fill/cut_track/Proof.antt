@@ -1,0 +1,69 @@
+-- Groups where there is an estimate, the whole track where there is none.
+use borrow.Author.Needs.{needs}
+use lib.Ieee.{ofBits}
+use Rattle.timeline.specs.Estimates.{estimateRows}
+use Rattle.timeline.specs.Segments.{segmentRows}
+use Rattle.segments.proofs.Fills.{groups-cut, whole-cut}
+use Rattle.segments.proofs.fill.cut_track.Statement.{statement}
+use Rattle.segments.proofs.fill.cut_track.Tie as tie
+
+cut-groups-requires : tie.Need-cut-groups-requires
+cut-groups-requires c κs = search needs
+
+same-length : tie.Need-same-length
+same-length c = search needs
+
+same-length-2 : tie.Need-same-length-2
+same-length-2 c = search needs
+
+same-length-3 : tie.Need-same-length-3
+same-length-3 c = search needs
+
+same-length-4 : tie.Need-same-length-4
+same-length-4 c = search needs
+
+returns : tie.Need-returns
+returns c =
+    let cut = c .before .before .before .before .before .before .before .before in
+    let args = cut .before .before .before .before .before .before .before .before .before .before .before .before .before .args in
+    groups-cut (args .track) (estimateRows (args .middles .now) (args .numbers .now) (args .certainties .now)) (args .found) (segmentRows (args .starts .now) (args .ends .now) (args .keys .now) (args .confidences .now)) (cut .before .before .before .before .before .if1 .taken) (cut .cut-groups .ensures)
+
+put-segment-requires : tie.Need-put-segment-requires
+put-segment-requires c κs = search needs
+
+same-length-5 : tie.Need-same-length-5
+same-length-5 c = search needs
+
+same-length-6 : tie.Need-same-length-6
+same-length-6 c = search needs
+
+same-length-7 : tie.Need-same-length-7
+same-length-7 c = search needs
+
+same-length-8 : tie.Need-same-length-8
+same-length-8 c = search needs
+
+returns-2 : tie.Need-returns-2
+unfolding ofBits
+returns-2 c =
+    let put = c .before .before .before .before .before .before .before .before in
+    let start = put .before .before .before .before .before .before .before .before .before .before .before .before .before .before in
+    let args = start .args in
+    whole-cut (args .track) (estimateRows (args .middles .now) (args .numbers .now) (args .certainties .now)) (args .found) (segmentRows (args .starts .now) (args .ends .now) (args .keys .now) (args .confidences .now)) (put .before .before .before .before .before .before .if1 .left) (start .pre .2) (put .put-segment .ensures)
+
+pub cut-track-spec : {M : Type 1} → statement M
+cut-track-spec =
+    tie.close
+    (tie.spec
+    cut-groups-requires
+    same-length
+    same-length-2
+    same-length-3
+    same-length-4
+    returns
+    put-segment-requires
+    same-length-5
+    same-length-6
+    same-length-7
+    same-length-8
+    returns-2)

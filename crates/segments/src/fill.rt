@@ -1,0 +1,91 @@
+// The segments of a track, from its estimates into lent rows.
+ghost use mathlib.Core.Path.{_≡_};
+ghost use Prim.Native.Nat.{_<_, _≤_};
+ghost use lib.ListN.{length};
+ghost use Rattle.timeline.specs.Estimates.{Found, lentEstimates, estimatesIn};
+ghost use Rattle.timeline.specs.Segments.{Room, lentSegments, filled, standing};
+ghost use Rattle.segments.specs.Fill.{filledOf, cutOf};
+use groups::cut::cut_groups;
+use keys::Key;
+use shortening::shorten::shorten_segments;
+use timeline::segment::Segment;
+use timeline::segment::put_segment;
+
+// What the segments of a track rest on beside its estimates: the threshold for a split, the least length, the
+// duration, and the key and the confidence of the whole track.
+pub struct Track {
+    pub threshold: f32,
+    pub minimum: f64,
+    pub duration: f64,
+    pub key: Key,
+    pub confidence: f32,
+}
+
+// The segments before shortening: one over the whole track where there is no estimate.
+fn cut_track(
+    track: Track,
+    found: usize,
+    middles: &[f64],
+    numbers: &[u8],
+    certainties: &[f32],
+    starts: &mut [f64],
+    ends: &mut [f64],
+    keys: &mut [u8],
+    confidences: &mut [f32],
+) -> usize
+    requires { ⌜ Found (lentEstimates middles numbers certainties) found × Room (lentSegments starts ends keys confidences) found × Room (lentSegments starts ends keys confidences) 1 ⌝ }
+    ensures { λ r. ⌜ filled r (lentSegments (starts .exit) (ends .exit) (keys .exit) (confidences .exit)) ≡ standing (cutOf track (estimatesIn (lentEstimates (middles .entry) (numbers .entry) (certainties .entry)) found)) (lentSegments (starts .entry) (ends .entry) (keys .entry) (confidences .entry)) ⌝ }
+{
+    if found > 0 {
+        return cut_groups(
+            track.threshold,
+            track.duration,
+            found,
+            middles,
+            numbers,
+            certainties,
+            starts,
+            ends,
+            keys,
+            confidences,
+        );
+    }
+    let key = track.key;
+    let whole = Segment {
+        start: 0.0,
+        end: track.duration,
+        key,
+        confidence: track.confidence,
+    };
+    put_segment(whole, 0, starts, ends, keys, confidences);
+    1
+}
+
+// The Rust's `estimate_segments` from its estimates on; returns how many segments there are.
+pub fn fill_segments(
+    track: Track,
+    found: usize,
+    middles: &[f64],
+    numbers: &[u8],
+    certainties: &[f32],
+    starts: &mut [f64],
+    ends: &mut [f64],
+    keys: &mut [u8],
+    confidences: &mut [f32],
+) -> usize
+    requires { ⌜ Found (lentEstimates middles numbers certainties) found × Room (lentSegments starts ends keys confidences) found × Room (lentSegments starts ends keys confidences) 1 ⌝ }
+    ensures { λ r. ⌜ filled r (lentSegments (starts .exit) (ends .exit) (keys .exit) (confidences .exit)) ≡ filledOf track (estimatesIn (lentEstimates (middles .entry) (numbers .entry) (certainties .entry)) found) (lentSegments (starts .entry) (ends .entry) (keys .entry) (confidences .entry)) ⌝ }
+{
+    let count = cut_track(
+        track,
+        found,
+        middles,
+        numbers,
+        certainties,
+        starts,
+        ends,
+        keys,
+        confidences,
+    );
+    shorten_segments(track.minimum, count, starts, ends, keys, confidences)
+}

@@ -1,0 +1,66 @@
+// The whole way from the loud frames to the segments: the Rust's `estimate_segments`.
+ghost use mathlib.Core.Path.{_≡_};
+ghost use Rattle.timeline.specs.Estimates.{lentEstimates};
+ghost use Rattle.timeline.specs.Segments.{lentSegments};
+ghost use Rattle.windows.specs.Gather.{heard};
+ghost use Rattle.segments.specs.Track.{outcome, locatedOf, Prepared};
+use crate::fill::Track;
+use crate::fill::fill_segments;
+use windows::run::Estimated;
+use windows::run::fill_estimates;
+use windows::span::Span;
+use windows::span::count_windows;
+
+// So many estimates and segments, or so many estimates before a window's start that did not grow.
+pub enum Located {
+    Told(usize, usize),
+    Halted(usize),
+}
+
+// Estimates go into their rows, and the segments made of them into theirs.
+pub fn locate_segments(
+    span: Span,
+    track: Track,
+    frames: usize,
+    centres: &[f64],
+    values: &[[f32; 12]],
+    middles: &mut [f64],
+    numbers: &mut [u8],
+    certainties: &mut [f32],
+    starts: &mut [f64],
+    ends: &mut [f64],
+    keys: &mut [u8],
+    confidences: &mut [f32],
+) -> Located
+    requires { ⌜ Prepared span (heard frames (now centres) (now values)) (lentEstimates middles numbers certainties) (lentSegments starts ends keys confidences) ⌝ }
+    ensures { λ r. ⌜ outcome r (lentEstimates (middles .exit) (numbers .exit) (certainties .exit)) (lentSegments (starts .exit) (ends .exit) (keys .exit) (confidences .exit)) ≡ locatedOf span track (heard frames (now (centres .entry)) (now (values .entry))) (lentEstimates (middles .entry) (numbers .entry) (certainties .entry)) (lentSegments (starts .entry) (ends .entry) (keys .entry) (confidences .entry)) ⌝ }
+{
+    let windows = count_windows(span);
+    let run = fill_estimates(
+        span,
+        windows,
+        frames,
+        centres,
+        values,
+        middles,
+        numbers,
+        certainties,
+    );
+    match run {
+        Estimated::Stuck(found) => Located::Halted(found),
+        Estimated::All(found) => {
+            let count = fill_segments(
+                track,
+                found,
+                middles,
+                numbers,
+                certainties,
+                starts,
+                ends,
+                keys,
+                confidences,
+            );
+            Located::Told(found, count)
+        }
+    }
+}

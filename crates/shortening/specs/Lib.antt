@@ -1,0 +1,3 @@
+pub mod Shorten
+pub mod Closing
+pub mod Ends
