@@ -133,6 +133,35 @@ pub mod expose {
     ) -> Vec<KeySegment> {
         super::estimate_segments(frames, duration, key, confidence, c)
     }
+    /// An estimate: the window's middle in seconds, its key and confidence.
+    pub type Estimate = (f64, MusicalKey, f32);
+
+    /// The estimates of the window loop, which runs where the duration is not below window + hop.
+    pub fn estimates(frames: &[ChromaFrame], duration: f64, c: KeyConfig) -> Vec<Estimate> {
+        let (window, hop) = (c.local_window_seconds.into(), c.local_hop_seconds.into());
+        super::local_estimates(frames, duration, window, hop)
+            .into_iter()
+            .map(|e| (e.center_seconds, e.key, e.confidence))
+            .collect()
+    }
+    /// What `estimate_segments` makes of these estimates.
+    pub fn segments_of_estimates(
+        estimates: &[Estimate],
+        duration: f64,
+        key: MusicalKey,
+        confidence: f32,
+        c: KeyConfig,
+    ) -> Vec<KeySegment> {
+        let local: Vec<LocalEstimate> = estimates
+            .iter()
+            .map(|&(center_seconds, key, confidence)| LocalEstimate {
+                center_seconds,
+                key,
+                confidence,
+            })
+            .collect();
+        super::segments_of_estimates(&local, duration, key, confidence, c)
+    }
     /// The majority key of estimates with these keys; at least one.
     pub fn majority_key(keys: &[MusicalKey]) -> MusicalKey {
         let estimates: Vec<LocalEstimate> = keys

@@ -9,5 +9,6 @@ pub mod frames;
 pub mod key_name;
 pub mod probe;
 pub mod scores;
+pub mod segments;
 pub mod sheet;
 pub mod written;

@@ -17,6 +17,9 @@ mod filters_tables;
 mod frames;
 #[path = "../compare/random.rs"]
 mod random;
+#[cfg(oracle)]
+#[path = "../speed/segments.rs"]
+mod segments;
 
 use random::patterns;
 use std::hint::black_box;
@@ -128,4 +131,6 @@ fn main() {
     filters::print_rows();
     #[cfg(oracle)]
     frames::print_row();
+    #[cfg(oracle)]
+    segments::print_row();
 }

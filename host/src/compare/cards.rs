@@ -1,6 +1,6 @@
 //! Key cards, beside a packer written from the request: a card is a row of bits, and a rule is a sentence.
 use super::analyses::{self, BREACHES, MOST_SEGMENTS, Told};
-use super::groups::{Compared, Groups, compared_exactly};
+use super::groups::{Groups, compared_as_shown, compared_exactly};
 use super::packed::{REFUSED, exact_milliseconds, exact_thousandths};
 use ulyptesh_host::card::{self, NO_KEY};
 use ulyptesh_host::written::{TOO_FEW_BYTES, UNWRITABLE, Written};
@@ -24,15 +24,7 @@ struct Left {
 
 compared_exactly!(Left);
 
-impl Compared for Told {
-    fn same(&self, other: &Self) -> bool {
-        self.shown() == other.shown()
-    }
-
-    fn shown(&self) -> String {
-        format!("{self:?}")
-    }
-}
+compared_as_shown!(Told);
 
 fn untouched(told: &Told) -> Vec<u8> {
     vec![UNTOUCHED; told.lent + BEYOND]

@@ -127,8 +127,13 @@ const MADE_FROM_A_DRAW: [(&str, Maker); 10] = [
 
 /// The kinds that need no answer to be made.
 pub fn plain_kinds(seed: u64) -> impl Iterator<Item = Kind> {
-    let equal = Kind { name: "all equal", chromas: Box::new(all_equal(draws(seed, 20))) };
-    (21..)
+    plain_kinds_from(seed, 20)
+}
+
+/// The same kinds from other streams, that one and those behind it.
+pub fn plain_kinds_from(seed: u64, stream: u64) -> impl Iterator<Item = Kind> {
+    let equal = Kind { name: "all equal", chromas: Box::new(all_equal(draws(seed, stream))) };
+    (stream + 1..)
         .zip(MADE_FROM_A_DRAW)
         .map(move |(stream, (name, make))| Kind { name, chromas: Box::new(draws(seed, stream).map(make)) })
         .chain([equal])

@@ -33,7 +33,24 @@ macro_rules! compared_exactly {
 
 pub(super) use compared_exactly;
 
-compared_exactly!(bool, u32, u64, usize);
+/// Alike where they read alike, as every NaN does.
+macro_rules! compared_as_shown {
+    ($($kind:ty),*) => {$(
+        impl $crate::compare::groups::Compared for $kind {
+            fn same(&self, other: &Self) -> bool {
+                self.shown() == other.shown()
+            }
+
+            fn shown(&self) -> String {
+                format!("{self:?}")
+            }
+        }
+    )*};
+}
+
+pub(super) use compared_as_shown;
+
+compared_exactly!(bool, u8, u32, u64, usize);
 
 macro_rules! compared_as_floats {
     ($($kind:ty),*) => {$(

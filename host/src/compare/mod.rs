@@ -1,13 +1,17 @@
 //! A module per topic; a named group of inputs is one test.
 extern crate key_lime;
 
+mod alternates;
 mod analyses;
 mod borderline;
 mod cards;
 mod chroma_edges;
 mod chroma_leaves;
 mod chromas;
+mod dice;
 mod edges;
+mod estimate_lists;
+mod estimates;
 mod filters;
 mod filters_sheets;
 mod filters_tables;
@@ -23,6 +27,11 @@ mod orders;
 mod packed;
 mod random;
 mod scores;
+mod segment_calls;
+mod segment_lists;
+mod segment_tracks;
+mod segments;
+mod shortening;
 
 use groups::Groups;
 use std::process::ExitCode;
@@ -67,6 +76,10 @@ fn compare(given: &Options) -> ExitCode {
     cards::compare(&mut groups);
     filters::compare(&mut groups);
     frames::compare(&mut groups);
+    estimates::compare(&mut groups);
+    shortening::compare(&mut groups);
+    alternates::compare(&mut groups);
+    segments::compare(&mut groups);
     groups.close()
 }
 

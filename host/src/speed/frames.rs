@@ -12,7 +12,8 @@ use ulyptesh_host::sheet::{Settings, SheetHead};
 const RATE: u32 = 44_100;
 const SECONDS: usize = 240;
 
-fn seconds(work: impl Fn()) -> f64 {
+/// How long the work takes.
+pub fn seconds(work: impl Fn()) -> f64 {
     let begun = Instant::now();
     work();
     begun.elapsed().as_secs_f64()
