@@ -8,11 +8,13 @@ use native.Mathlib.Omega.{arith}
 use lib.ListN.{length}
 use lib.Dec.{T}
 use borrow.Author.Tests.{lt-ltb}
+use Rattle.laws.proofs.Turns.{turns-keep}
+use Rattle.laws.proofs.Every.{and-last}
 use Rattle.laws.specs.Turns.{turns}
 use lib.Ieee.{Float}
 use Rattle.laws.specs.Order.{totalOrder}
 use Rattle.laws.proofs.Cases.{by-test}
-use Rattle.laws.proofs.Leader.{and-last, turns-keep, ranks-itself, ranks-other}
+use Rattle.laws.proofs.Leader.{ranks-itself, ranks-other}
 use Rattle.timeline.specs.Segments.{seconds, segmentAt}
 use Rattle.timeline.specs.declared.segment.Segment.{Segment}
 use Rattle.alternates.specs.Longest.{longer, longestTurn, longestOf, reportedOf, LongestReported}

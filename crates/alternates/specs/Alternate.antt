@@ -88,3 +88,13 @@ alternateOf reported threshold segments =
     cond (le threshold plusZero || eqb (length segments) 0) Nobody
     (cond (le (totalOf segments) instant) Nobody
     (judged threshold (totalOf segments) (rivalOf reported segments)))
+
+-- the answer's key number: 24 where there is no alternate
+abbrev pub alternateNumber : Alternate → ℕ
+alternateNumber Nobody = 24
+alternateNumber (Named key coverage) = key
+
+-- the answer's coverage: 0 where there is no alternate
+abbrev pub alternateCoverage : Alternate → Float
+alternateCoverage Nobody = plusZero
+alternateCoverage (Named key coverage) = coverage

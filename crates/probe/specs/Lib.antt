@@ -1,3 +1,4 @@
 pub mod Filters
 pub mod Medians
 pub mod Packed
+pub mod Segments

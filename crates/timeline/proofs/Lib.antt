@@ -1,3 +1,4 @@
 pub mod Tilings
 pub mod Estimates
 pub mod Segments
+pub mod Rooms

@@ -1,5 +1,5 @@
 -- Estimates in lent rows, three slices side by side with keys by number, and centres that rise. Definitions only.
-use Prim.Native.Nat.{ℕ, _+_, _^_, _<_, _≤_}
+use Prim.Native.Nat.{ℕ, _+_, _^_, _<_, _≤_, min}
 use mathlib.Core.List.{List, map}
 use lib.ListN.{length, getD, set}
 use lib.Dec.{T}
@@ -47,6 +47,10 @@ estimatesIn r count = list (estimateIn r) count
 -- each of the first keys is a key's number
 abbrev pub Numbered : List ℕ → ℕ → Type 0
 Numbered keys count = (i : ℕ) → i < count → getD keys i 0 < 24
+
+-- how many rows there are: as many as in the shortest slice
+abbrev pub estimateRoom : EstimateRows → ℕ
+estimateRoom r = min (length (r .centres)) (min (length (r .keys)) (length (r .confidences)))
 
 -- so many estimates are there, with a key's number each
 pub record Found (rows : EstimateRows) (count : ℕ) : Type 0 where

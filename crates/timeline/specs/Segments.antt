@@ -1,5 +1,5 @@
 -- A stretch of time with one key, [start, end) in seconds, and such segments in lent rows: four slices side by side, with keys by number. Definitions only.
-use Prim.Native.Nat.{ℕ, _≤_}
+use Prim.Native.Nat.{ℕ, _≤_, min}
 use mathlib.Core.Bool.{Bool}
 use mathlib.Core.List.{List, map}
 use lib.ListN.{length, getD, set}
@@ -80,6 +80,10 @@ pub record Room (before : SegmentRows) (count : ℕ) : Type 0 where
   pub ends : count ≤ length (before .ends)
   pub keys : count ≤ length (before .keys)
   pub confidences : count ≤ length (before .confidences)
+
+-- how many rows there are: as many as in the shortest slice
+abbrev pub segmentRoom : SegmentRows → ℕ
+segmentRoom r = min (length (r .starts)) (min (length (r .ends)) (min (length (r .keys)) (length (r .confidences))))
 
 -- how many segments there are, and the rows that hold them
 pub record Filled : Type 0 where

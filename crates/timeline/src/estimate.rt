@@ -2,10 +2,11 @@
 ghost use mathlib.Core.Path.{_≡_};
 ghost use Prim.Native.Nat.{_<_};
 ghost use lib.ListN.{length};
-ghost use Rattle.timeline.specs.Estimates.{lentEstimates, putEstimate, estimateIn};
+ghost use Rattle.timeline.specs.Estimates.{lentEstimates, putEstimate, estimateIn, estimateRoom};
 use crate::stored::stored_key;
 use keys::Key;
 use keys::numbers::key_number;
+use numbers::counts::fewer;
 
 // The Rust's LocalEstimate: the window's middle in seconds, its key and how sure that is.
 pub struct Estimate {
@@ -42,4 +43,11 @@ pub fn estimate_at(i: usize, centres: &[f64], keys: &[u8], confidences: &[f32]) 
         key,
         confidence: confidences[i],
     }
+}
+
+// How many rows there are.
+pub fn estimate_room(centres: &[f64], keys: &[u8], confidences: &[f32]) -> usize
+    ensures { λ r. ⌜ r ≡ estimateRoom (lentEstimates (centres .entry) (keys .entry) (confidences .entry)) ⌝ }
+{
+    fewer(centres.len(), fewer(keys.len(), confidences.len()))
 }

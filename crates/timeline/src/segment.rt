@@ -2,10 +2,11 @@
 ghost use mathlib.Core.Path.{_≡_};
 ghost use Prim.Native.Nat.{_<_};
 ghost use lib.ListN.{length};
-ghost use Rattle.timeline.specs.Segments.{emptied, seconds, short, joined, lentSegments, putSegment, segmentIn};
+ghost use Rattle.timeline.specs.Segments.{emptied, seconds, short, joined, lentSegments, putSegment, segmentIn, segmentRoom};
 use crate::stored::stored_key;
 use keys::Key;
 use keys::numbers::key_number;
+use numbers::counts::fewer;
 use numbers::double::larger;
 use numbers::double::smaller;
 
@@ -94,4 +95,14 @@ pub fn segment_at(
         key,
         confidence: confidences[i],
     }
+}
+
+// How many rows there are.
+pub fn segment_room(starts: &[f64], ends: &[f64], keys: &[u8], confidences: &[f32]) -> usize
+    ensures { λ r. ⌜ r ≡ segmentRoom (lentSegments (starts .entry) (ends .entry) (keys .entry) (confidences .entry)) ⌝ }
+{
+    fewer(
+        starts.len(),
+        fewer(ends.len(), fewer(keys.len(), confidences.len())),
+    )
 }
