@@ -1,10 +1,13 @@
 -- The checker computes every row.
-use lib.Ieee.{ofInt, toSigned, isNan, lt, eq, add, sub, mul, div, neg, toBits, ofBits}
+use lib.Ieee.{ofInt, toSigned, isNan, lt, eq, le, add, sub, mul, div, neg, toBits, ofBits}
 use Rattle.laws.specs.Turns.{turns}
 use Rattle.laws.specs.Every.{every}
 use Rattle.laws.specs.Front.{list}
 use Rattle.laws.specs.Values.{magnitudeOf}
-use Rattle.laws.specs.Pick.{maximumNumber, clampedTo}
+use Rattle.laws.specs.Leader.{firstMet, leaderTurn, leaderOf}
+use Rattle.laws.specs.Order.{totalOrder}
+use Rattle.laws.specs.Convert.{converted}
+use Rattle.laws.specs.Pick.{maximumNumber, minimumNumber, clampedTo}
 use Rattle.numbers.specs.Sum.{sumOf}
 use Rattle.numbers.specs.Floor.{floored}
 use Rattle.chroma.specs.Shift.{classOf, blended, readAt, shifted}
@@ -16,12 +19,17 @@ use Rattle.scores.specs.Scores.{scoreOf, scoresOf}
 use Rattle.scores.specs.Places.{placed, candidateAt, placesOf}
 use Rattle.scores.specs.Classify.{louder, chosenKey, confidenceOf, classifiedOf}
 use Rattle.laws.specs.First.{first}
+use Rattle.timeline.specs.Segments.{seconds, short, joined}
+use Rattle.groups.specs.Majority.{countOf, majorityOf}
+use Rattle.groups.specs.Groups.{splits, grouped, groupOf, cutTurn, groupsOf}
+use Rattle.shortening.specs.Shorten.{firstShort, keeper, joinAt, unsettled, joinShort, shorten, shortenedOf}
+use Rattle.alternates.specs.Alternate.{heard, lasting, totalOf, numberAt, lastsIn, secondsTurn, secondsOf, rivals, rivalOf, coverageOf, lacks, alternateOf}
 use Rattle.bits.specs.Bits.{bitsOf, numberOf, bytesCut}
 use Rattle.card_writer.specs.Form.{segmentsBits, cardBytes}
 use Rattle.card.specs.Rules.{headerBroken, segmentBroken, cardBroken}
 use Rattle.card_writer.specs.Analysed.{unequal, unwritable}
-use Rattle.sixteen.specs.Rows.{rowL, rowM, rowN, rowO, rowP, rows, RowsHold}
+use Rattle.sixteen.specs.Rows.{rowA, rowB, rowC, rowD, rowE, rowF, rowG, rowH, rowI, rowJ, rowK, rowL, rowM, rowN, rowO, rowP, rows, RowsHold}
 
 pub rows-hold : RowsHold
-unfolding rows rowL rowM rowN rowO rowP first bitsOf numberOf bytesCut segmentsBits cardBytes headerBroken segmentBroken cardBroken unequal unwritable classOf blended readAt shifted floored ofInt toSigned every isNan lt eq add sub mul div neg toBits ofBits turns list magnitudeOf maximumNumber clampedTo sumOf wholeRoot doubledRoot rootOfUnits rootOf tonics profiles profileAt sumsOf quotientOf correlationOf scoreOf scoresOf placed candidateAt placesOf louder chosenKey confidenceOf classifiedOf
+unfolding rows rowA rowB rowC rowD rowE rowF rowG rowH rowI rowJ rowK rowL rowM rowN rowO rowP first firstMet leaderTurn leaderOf totalOrder converted minimumNumber seconds short joined countOf majorityOf splits grouped groupOf cutTurn groupsOf firstShort keeper joinAt unsettled joinShort shorten shortenedOf heard lasting totalOf numberAt lastsIn secondsTurn secondsOf rivals rivalOf coverageOf lacks alternateOf le bitsOf numberOf bytesCut segmentsBits cardBytes headerBroken segmentBroken cardBroken unequal unwritable classOf blended readAt shifted floored ofInt toSigned every isNan lt eq add sub mul div neg toBits ofBits turns list magnitudeOf maximumNumber clampedTo sumOf wholeRoot doubledRoot rootOfUnits rootOf tonics profiles profileAt sumsOf quotientOf correlationOf scoreOf scoresOf placed candidateAt placesOf louder chosenKey confidenceOf classifiedOf
 rows-hold = tt

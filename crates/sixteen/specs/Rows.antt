@@ -3,11 +3,20 @@ use Prim.Native.Nat.{ℕ}
 use mathlib.Core.Bool.{Bool, true, not, _&&_}
 use mathlib.Core.List.{List, [], _∷_, _++_}
 use lib.Dec.{T, eqb}
+use lib.IntN.{pos}
 use lib.ListN.{length, getD, replicate}
-use lib.Ieee.{Float, nan, binary32, binary64, isNan, ofBits, toBits}
+use lib.Ieee.{Float, nan, binary32, binary64, isNan, ofInt, ofBits, toBits}
 use Rattle.laws.specs.Every.{every}
 use Rattle.laws.specs.Values.{plusZero, one, aHalf}
-use Rattle.keys.specs.Numbers.{keyNumber}
+use Rattle.keys.specs.Numbers.{keyNumber, keyAt, sameKey}
+use Rattle.timeline.specs.declared.estimate.Estimate.{Estimate}
+use Rattle.timeline.specs.declared.segment.Segment.{Segment}
+use Rattle.timeline.specs.Segments.{segment, emptied}
+use Rattle.groups.specs.Majority.{majorityOf}
+use Rattle.groups.specs.Groups.{groupsOf}
+use Rattle.shortening.specs.Shorten.{shortenedOf}
+use Rattle.alternates.specs.declared.alternate.Alternate.{Alternate}
+use Rattle.alternates.specs.Alternate.{alternateOf, alternateNumber, alternateCoverage}
 use Rattle.chroma.specs.Shift.{shiftedOf}
 use Rattle.card.specs.Layout.{layout1}
 use Rattle.card_writer.specs.Form.{cardBytes}
@@ -20,6 +29,110 @@ use Rattle.scores.specs.Classify.{confidenceOf, classifiedOf}
 pub record Row : Type 0 where
   pub letter : ℕ
   pub holds : Bool
+
+-- two lists are as long as each other, and their entries pass a test pair by pair; d is read nowhere
+abbrev pub pairwise : {A : Type 0} → (A → A → Bool) → A → List A → List A → Bool
+pairwise test d xs ys = eqb (length xs) (length ys) && every (λ (k : ℕ). test (getD xs k d) (getD ys k d)) (length xs)
+
+-- ---- a and b: the majority of key numbers
+-- most are this one
+abbrev pub mostAre : List ℕ → ℕ → Bool
+mostAre numbers number = eqb (majorityOf numbers) number
+
+-- equal counts: the one first met last
+unfoldable pub rowA : Row
+rowA = record { letter = 97; holds = mostAre (0 ∷ 7 ∷ 7 ∷ 0 ∷ []) 7 }
+
+-- the same the other way round
+unfoldable pub rowB : Row
+rowB = record { letter = 98; holds = mostAre (7 ∷ 0 ∷ 0 ∷ 7 ∷ []) 0 }
+
+-- ---- c to g: segments shortened
+-- so many seconds
+abbrev pub whole : ℕ → Float
+whole n = ofInt binary64 (pos n)
+
+-- [start, end) key, of confidence 0
+abbrev pub part : ℕ → ℕ → ℕ → Segment
+part start end number = segment (whole start) (whole end) (keyAt number) plusZero
+
+-- two times are equal, by their patterns
+abbrev pub sameTime : Float → Float → Bool
+sameTime x y = eqb (toBits binary64 x) (toBits binary64 y)
+
+-- two segments have the same start, end and key
+abbrev pub sameSegment : Segment → Segment → Bool
+sameSegment s t = sameTime (s .start) (t .start) && sameTime (s .end) (t .end) && sameKey (s .key) (t .key)
+
+-- two lists of segments do
+abbrev pub sameSegments : List Segment → List Segment → Bool
+sameSegments = pairwise sameSegment emptied
+
+-- with a minimum of 12 s, the segments become these
+abbrev pub shortens : List Segment → List Segment → Bool
+shortens before after = sameSegments (shortenedOf (whole 12) before) after
+
+-- the first is short: it joins the second, and keeps its own key
+unfoldable pub rowC : Row
+rowC = record { letter = 99; holds = shortens (part 0 10 0 ∷ part 10 40 7 ∷ part 40 70 9 ∷ []) (part 0 40 0 ∷ part 40 70 9 ∷ []) }
+
+-- neighbours as long as each other: the earlier one
+unfoldable pub rowD : Row
+rowD = record { letter = 100; holds = shortens (part 0 30 0 ∷ part 30 40 7 ∷ part 40 70 9 ∷ []) (part 0 40 0 ∷ part 40 70 9 ∷ []) }
+
+-- the later neighbour is longer, and the short one's key stays
+unfoldable pub rowE : Row
+rowE = record { letter = 101; holds = shortens (part 0 20 0 ∷ part 20 30 7 ∷ part 30 70 9 ∷ []) (part 0 20 0 ∷ part 20 70 7 ∷ []) }
+
+-- the last is short
+unfoldable pub rowF : Row
+rowF = record { letter = 102; holds = shortens (part 0 30 0 ∷ part 30 40 7 ∷ []) (part 0 40 0 ∷ []) }
+
+-- none is shorter than the minimum
+unfoldable pub rowG : Row
+rowG = record { letter = 103; holds = shortens (part 0 12 0 ∷ part 12 24 7 ∷ []) (part 0 12 0 ∷ part 12 24 7 ∷ []) }
+
+-- ---- h to j: the alternate key
+-- 0.25
+abbrev pub aQuarter : ℕ
+aQuarter = 0x3e80_0000
+
+-- the answer is this key number, with a coverage of this pattern
+abbrev pub answers : ℕ → ℕ → Alternate → Bool
+answers number coverage a = eqb (alternateNumber a) number && eqb (toBits binary32 (alternateCoverage a)) coverage
+
+-- that is the answer where key 0 is reported and the threshold is 0.25
+abbrev pub names : List Segment → ℕ → ℕ → Bool
+names segments number coverage = answers number coverage (alternateOf 0 (ofBits binary32 aQuarter) segments)
+
+-- a coverage at the threshold
+unfoldable pub rowH : Row
+rowH = record { letter = 104; holds = names (part 0 45 0 ∷ part 45 60 7 ∷ []) 7 aQuarter }
+
+-- equal seconds: the key first met last
+unfoldable pub rowI : Row
+rowI = record { letter = 105; holds = names (part 0 30 0 ∷ part 30 45 7 ∷ part 45 60 9 ∷ []) 9 aQuarter }
+
+-- a coverage below the threshold: none
+unfoldable pub rowJ : Row
+rowJ = record { letter = 106; holds = names (part 0 46 0 ∷ part 46 60 7 ∷ []) noKey 0 }
+
+-- ---- k: windows cut into groups
+-- a window: its centre in seconds, its key number, and the pattern of its confidence
+abbrev pub window : ℕ → ℕ → ℕ → Estimate
+window centre number confidence = record { centre = whole centre; key = keyAt number; confidence = ofBits binary32 confidence }
+
+-- with a threshold of 0.35 and 30 s, the windows become these segments
+abbrev pub groups : List Estimate → List Segment → Bool
+groups windows segments = sameSegments (groupsOf (ofBits binary32 0x3eb3_3333) (whole 30) windows) segments
+
+-- confidences 0.9, 0.9, 0.34, 0.9: the third lies below the threshold, and the fourth has the key of the window before it
+unfoldable pub rowK : Row
+rowK =
+    record {
+      letter = 107;
+      holds = groups (window 6 0 0x3f66_6666 ∷ window 12 0 0x3f66_6666 ∷ window 18 7 0x3eae_147b ∷ window 24 7 0x3f66_6666 ∷ []) (part 0 30 7 ∷ []);
+    }
 
 -- ---- l: a chroma shifted by half a bin
 -- bin 11 is 1, the others 0
@@ -54,7 +167,7 @@ rowN = record { letter = 110; holds = tells isPlusZero (classifiedOf (replicate 
 -- ---- o and p: the card of an analysis
 -- two lists of numbers are equal
 abbrev pub sameNumbers : List ℕ → List ℕ → Bool
-sameNumbers xs ys = eqb (length xs) (length ys) && every (λ (k : ℕ). eqb (getD xs k 0) (getD ys k 0)) (length xs)
+sameNumbers = pairwise eqb 0
 
 -- a card holds the analysis, and has these bytes
 abbrev pub writes : Analysis → List ℕ → Bool
@@ -80,7 +193,7 @@ rowP = record { letter = 112; holds = writes emptyAnalysis (0x1c ∷ 0x63 ∷ 0x
 
 -- ---- the table
 unfoldable pub rows : List Row
-rows = rowL ∷ rowM ∷ rowN ∷ rowO ∷ rowP ∷ []
+rows = rowA ∷ rowB ∷ rowC ∷ rowD ∷ rowE ∷ rowF ∷ rowG ∷ rowH ∷ rowI ∷ rowJ ∷ rowK ∷ rowL ∷ rowM ∷ rowN ∷ rowO ∷ rowP ∷ []
 
 -- whether every row of a table holds
 abbrev pub allHold : List Row → Bool
