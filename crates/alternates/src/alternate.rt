@@ -3,6 +3,7 @@ ghost use mathlib.Core.Path.{_≡_};
 ghost use mathlib.Core.Bool.{_&&_, not};
 ghost use Prim.Native.Nat.{_≤_};
 ghost use lib.Dec.{eqb};
+ghost use lib.Ieee.{binary64, add};
 ghost use Rattle.laws.specs.First.{first};
 ghost use Rattle.laws.specs.Order.{totalOrder};
 ghost use Rattle.laws.specs.Leader.{isOf, outdone};
@@ -44,6 +45,14 @@ fn is_lasting(segment: Segment) -> bool
     !(heard_seconds(segment) <= 0.0000000000000002220446049250313)
 }
 
+// One segment's length more.
+fn with_length(sum: f64, segment: Segment) -> f64
+    ensures { λ r. ⌜ r ≡ add binary64 sum (heard segment) ⌝ }
+{
+    let length = heard_seconds(segment);
+    sum + length
+}
+
 // All segments' lengths, summed in order from -0.
 fn total_seconds(
     count: usize,
@@ -59,7 +68,7 @@ fn total_seconds(
     let mut i = 0;
     while i < count {
         let segment = segment_at(i, starts, ends, keys, confidences);
-        sum += heard_seconds(segment);
+        sum = with_length(sum, segment);
         i += 1;
     }
     sum

@@ -9,6 +9,7 @@ use Rattle.laws.specs.Turns.{turns}
 use Rattle.laws.proofs.Turns.{turns-again, turns-end}
 use Rattle.timeline.specs.Segments.{SegmentRows, segmentRows, lentSegments, segmentsIn}
 use Rattle.alternates.proofs.Rows.{read-at, rows-start}
+use Rattle.timeline.specs.declared.segment.Segment.{Segment}
 use Rattle.alternates.specs.Alternate.{heard, totalTurn, totalOf}
 use Rattle.alternates.proofs.alternate.total_seconds.Statement.{statement}
 use Rattle.alternates.proofs.alternate.total_seconds.Tie as tie
@@ -34,8 +35,8 @@ loop-holds c =
 segment-at-requires : tie.Need-segment-at-requires Inv-loop μ-loop
 segment-at-requires c κs = search needs
 
-heard-seconds-requires : tie.Need-heard-seconds-requires Inv-loop μ-loop
-heard-seconds-requires c κs = search needs
+with-length-requires : tie.Need-with-length-requires Inv-loop μ-loop
+with-length-requires c κs = search needs
 
 add-i : tie.Need-add-i Inv-loop μ-loop
 add-i c = search needs
@@ -49,8 +50,8 @@ loop-again c =
     let s = turn .before .before .before .before .before in
     let i = turn .loop .i in
     let inside = c .before .before .loop-test .taken in
-    let told = c .heard-seconds .ensures ∙ ap heard (read-at (rows s) (s .args .count) i inside (c .before .segment-at .ensures)) in
-    (omega (arith, inside), turns-again (totalTurn (segmentsIn (rows s) (s .args .count))) (s .args .count) i (turn .loop .inv .1) inside (ap (add binary64 (turn .loop .sum)) told))
+    let told = c .with-length .ensures ∙ ap (λ (x : Segment). add binary64 (turn .loop .sum) (heard x)) (read-at (rows s) (s .args .count) i inside (c .before .segment-at .ensures)) in
+    (omega (arith, inside), turns-again (totalTurn (segmentsIn (rows s) (s .args .count))) (s .args .count) i (turn .loop .inv .1) inside told)
 
 returns : tie.Need-returns Inv-loop μ-loop
 returns c =
@@ -66,7 +67,7 @@ total-seconds-spec =
     μ-loop
     loop-holds
     segment-at-requires
-    heard-seconds-requires
+    with-length-requires
     add-i
     loop-less
     loop-again
