@@ -1,3 +1,4 @@
 mod Fills
 mod Locates
 pub mod Demand
+pub mod Told

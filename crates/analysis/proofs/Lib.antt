@@ -1,0 +1,5 @@
+-- What the proofs of an analysis share.
+mod Rooms
+mod Reports
+mod Louds
+mod Positions

@@ -1,0 +1,32 @@
+// The room that a call has, for row 8 of the check table, and its haste, for row 5.
+ghost use mathlib.Core.Path.{_≡_};
+ghost use Rattle.analysis.specs.Room.{hasty, roomFor};
+use calls::Settings;
+use numbers::counts::fewer;
+use windows::span::rows_asked;
+use windows::span::span_of;
+
+// Whether the local hop is below half a second.
+pub fn is_hasty(settings: Settings) -> bool
+    ensures { λ r. ⌜ r ≡ hasty settings ⌝ }
+{
+    settings.local_hop_seconds < 0.5
+}
+
+// The frame positions that there is room for: none where estimates or segments are too few.
+pub fn room_for(
+    settings: Settings,
+    samples: usize,
+    frames: usize,
+    estimates: usize,
+    segments: usize,
+) -> usize
+    ensures { λ r. ⌜ r ≡ roomFor settings samples frames estimates segments ⌝ }
+{
+    let span = span_of(settings, samples);
+    if rows_asked(span) <= fewer(estimates, segments) {
+        frames
+    } else {
+        0
+    }
+}

@@ -1,0 +1,62 @@
+// The call "analyse".
+ghost use mathlib.Core.Path.{_≡_};
+ghost use Rattle.calls.specs.Call.{given};
+ghost use Rattle.analysis.specs.Lent.{lentAll};
+ghost use Rattle.analysis.specs.Analyse.{outcome, analysed};
+ghost use Rattle.analysis.specs.Demand.{DemandThree};
+use analysis::analyse::analyse;
+use analysis::answer::AnalyseResult;
+use calls::Settings;
+use calls::SheetHead;
+
+// Analyses a track: loud frames, estimates and segments go into the lent rows from the front, and the answer tells
+// the key, the alternate and how many rows are written. Refusals 1 to 8 by the table; 9 a loud frame that is not
+// finite, with its position; 10 a window whose start does not grow.
+#[no_mangle]
+pub extern "C" fn ulyptesh_analyse(
+    settings: Settings,
+    head: SheetHead,
+    samples: &[f32],
+    window: &[f32],
+    coefficients: &[f32],
+    weights: &[f32],
+    lengths: &[u32],
+    qcoefficients: &[f32],
+    qwindows: &[f32],
+    centres: &mut [f64],
+    values: &mut [[f32; 12]],
+    energies: &mut [f32],
+    work: &mut [f32],
+    middles: &mut [f64],
+    numbers: &mut [u8],
+    certainties: &mut [f32],
+    starts: &mut [f64],
+    ends: &mut [f64],
+    keys: &mut [u8],
+    confidences: &mut [f32],
+) -> AnalyseResult
+    ensures { λ r. ⌜ (outcome r (lentAll (centres .exit) (values .exit) (energies .exit) (work .exit) (middles .exit) (numbers .exit) (certainties .exit) (starts .exit) (ends .exit) (keys .exit) (confidences .exit)) ≡ analysed (given settings head (samples .entry) (window .entry) (coefficients .entry) (weights .entry) (lengths .entry) (qcoefficients .entry) (qwindows .entry)) (lentAll (centres .entry) (values .entry) (energies .entry) (work .entry) (middles .entry) (numbers .entry) (certainties .entry) (starts .entry) (ends .entry) (keys .entry) (confidences .entry))) × DemandThree (given settings head (samples .entry) (window .entry) (coefficients .entry) (weights .entry) (lengths .entry) (qcoefficients .entry) (qwindows .entry)) (outcome r (lentAll (centres .exit) (values .exit) (energies .exit) (work .exit) (middles .exit) (numbers .exit) (certainties .exit) (starts .exit) (ends .exit) (keys .exit) (confidences .exit))) ⌝ }
+{
+    analyse(
+        settings,
+        head,
+        samples,
+        window,
+        coefficients,
+        weights,
+        lengths,
+        qcoefficients,
+        qwindows,
+        centres,
+        values,
+        energies,
+        work,
+        middles,
+        numbers,
+        certainties,
+        starts,
+        ends,
+        keys,
+        confidences,
+    )
+}
