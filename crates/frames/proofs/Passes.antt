@@ -1,5 +1,5 @@
 -- A call that passes the checks has all that the run needs.
-use Prim.Native.Nat.{ℕ, _<_}
+use Prim.Native.Nat.{ℕ, _<_, _≤_}
 use mathlib.Core.Path.{_≡_}
 use mathlib.Core.Bool.{Bool, true}
 use mathlib.Core.List.{[], _∷_}
@@ -31,9 +31,10 @@ same-size s h m =
     ∷ [])
     m 3)
 
-pub ready : (c : Call) (hasty : Bool) (before : Rows) (positions : ℕ) → c .sheet .head .«maximum_midi_note» < 256 → checked c hasty (roomIn before) ≡ Go positions → Ready c before positions
-ready c hasty before positions note e =
-    let p = passed c hasty (roomIn before) positions e in
+-- whatever room the call told, where the lent rows have that much
+pub ready : (c : Call) (hasty : Bool) (room : ℕ) (before : Rows) (positions : ℕ) → c .sheet .head .«maximum_midi_note» < 256 → room ≤ roomIn before → checked c hasty room ≡ Go positions → Ready c before positions
+ready c hasty room before positions note there e =
+    let p = passed c hasty room positions e in
     record {
       many = p .many;
       hops = p .worthwhile .hops;
@@ -42,7 +43,7 @@ ready c hasty before positions note e =
       enough = p .worthwhile .enough;
       sized = same-size (c .settings) (c .sheet .head) (p .made);
       formed = well-formed-suffices (c .sheet) note (p .formed);
-      centres = omega (arith, p .places);
-      values = omega (arith, p .places);
-      energies = omega (arith, p .places);
+      centres = omega (arith, p .places, there);
+      values = omega (arith, p .places, there);
+      energies = omega (arith, p .places, there);
     }

@@ -1,6 +1,7 @@
 -- The checks decide, and a call that passes them has what the run needs.
 use mathlib.Core.Path.{_≡_}
 use Prim.Native.Nat.{_<_}
+use native.Mathlib.Nat.{le-refl}
 use mathlib.Core.Bool.{false}
 use Rattle.calls.specs.Call.{Call, given}
 use Rattle.calls.specs.Rows.{Rows, lentRows, roomIn}
@@ -55,7 +56,7 @@ fill-rows-requires : tie.Need-fill-rows-requires
 fill-rows-requires c κs =
     let go = c .before .before .before .before in
     let answer = go .before .before in
-    ready (asked (start answer)) false (rented (start answer)) _ (byte-note (start answer)) (told answer _ (go .positions .given .1))
+    ready (asked (start answer)) false (roomIn (rented (start answer))) (rented (start answer)) _ (byte-note (start answer)) (le-refl _) (told answer _ (go .positions .given .1))
 
 finished-requires : tie.Need-finished-requires
 finished-requires c κs = search needs
