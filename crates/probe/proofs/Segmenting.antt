@@ -1,8 +1,8 @@
 -- What the guards of the segments' probes tell, and what is answered on either side of them.
 use mathlib.Core.Path.{_≡_, sym, ap, subst, _∙_}
-use mathlib.Core.Bool.{Bool, true, false, not, cond}
+use mathlib.Core.Bool.{Bool, true, false, not}
 use mathlib.Core.List.{List, [], _∷_}
-use Prim.Native.Nat.{ℕ, _≤_, min}
+use Prim.Native.Nat.{ℕ, min}
 use native.Mathlib.Omega.{arith}
 use borrow.Author.Tests.{ltb-true, leb-true, eqb-true, not-true, not-false}
 use lib.Dec.{T, eqb, ltb, leb, ltb→lt}
@@ -14,8 +14,9 @@ use Rattle.calls.specs.declared.Settings.{Settings}
 use Rattle.timeline.specs.Estimates.{EstimateRows, estimatesIn, estimateRoom, Numbered, Found}
 use Rattle.timeline.specs.Segments.{SegmentRows, segmentsIn, segmentRoom, Room, Filled, filled}
 use Rattle.timeline.proofs.Rooms.{room-within, estimates-within}
-use Rattle.windows.specs.Span.{spanOf, rowsAsked, windowsOf, brief, budgetFor, longestTrack, windowsWithin}
+use Rattle.windows.specs.Span.{spanOf, rowsAsked, windowsOf}
 use Rattle.windows.specs.declared.span.Span.{Span}
+use Rattle.windows.proofs.Spans.{windows-asked}
 use Rattle.shortening.specs.Shorten.{settled}
 use Rattle.segments.specs.Fill.{filledOf}
 use Rattle.segments.specs.Track.{Outcome, outcome, locatedOf, Prepared}
@@ -77,15 +78,6 @@ module _ (t : Track) (e : EstimateRows) (rows : SegmentRows) {room : ℕ} {fit :
 
     pub cut-so : {out : Filled} {track : Track} → not flag ≡ false → track ≡ t → out ≡ filledOf track (estimatesIn e (length (e .keys))) rows → out ≡ probedCut t e rows
     cut-so f same out = out ∙ ap (λ (x : Track). filledOf x (estimatesIn e (length (e .keys))) rows) same ∙ rw (fitting (passed told good), passed numbers f)
-
--- no more windows than rows are asked for
-windows-asked : (s : Span) → windowsOf s ≤ rowsAsked s
-unfolding windowsOf rowsAsked
-windows-asked s = either (brief s) (windowsWithin (budgetFor longestTrack) s)
-  where
-    either : (b : Bool) (n : ℕ) → cond b 0 n ≤ cond b 1 n
-    either true n = omega arith
-    either false n = omega arith
 
 module _ (s : Settings) (samples : ℕ) (t : Track) (centres : List Float) (values : List (List Float)) (e : EstimateRows) (rows : SegmentRows) {span : Span} {asked estimates room : ℕ} {flag : Bool} (spans : span ≡ spanOf s samples) (asks : asked ≡ rowsAsked span) (lent : estimates ≡ estimateRoom e) (left : room ≡ segmentRoom rows) (told : flag ≡ fitsIn asked estimates room) where
   abbrev guard : Bool

@@ -14,26 +14,18 @@ use Rattle.timeline.specs.Estimates.{EstimateRows, holdingEstimates, estimatesI
 use Rattle.timeline.specs.Segments.{SegmentRows, Room, filled}
 use Rattle.timeline.specs.declared.estimate.Estimate.{Estimate}
 use Rattle.timeline.proofs.Estimates.{rows-numbered}
-use Rattle.windows.specs.Span.{endsAt, windowsWithin, windowsOf, brief}
+use Rattle.windows.specs.Span.{windowsOf}
 use Rattle.windows.specs.Gather.{Heard}
 use Rattle.windows.specs.Run.{estimatesBefore, stuckAt, Run, ran, runOf, Ready}
 use Rattle.windows.specs.declared.span.Span.{Span}
 use Rattle.windows.specs.declared.run.Estimated.{Estimated}
 use Rattle.windows.specs.declared.run.Estimated.the-variants.{All, Stuck}
 use Rattle.windows.proofs.Found.{estimates-few}
+use Rattle.windows.proofs.Spans.{windows-few}
 use Rattle.segments.specs.Fill.{filledOf}
 use Rattle.segments.specs.Track.{Outcome, outcome, told, followed, locatedOf, Prepared}
 use Rattle.segments.specs.declared.fill.Track.{Track}
 use Rattle.segments.specs.declared.track.Located.the-variants.{Told, Halted}
-
--- the budget holds the windows far below what a count can be
-windows-few : (s : Span) → windowsOf s ≤ 28_801
-unfolding windowsOf windowsWithin
-windows-few s = either (brief s) (first-within (endsAt s) 28_801 0)
-  where
-    either : (b : Bool) → first (endsAt s) 28_801 0 ≤ 0 + 28_801 → cond b 0 (first (endsAt s) 28_801 0) ≤ 28_801
-    either true h = omega arith
-    either false h = omega arith
 
 -- how many estimates an answer says, and whether it says that all windows were passed
 abbrev count-of : Estimated → ℕ

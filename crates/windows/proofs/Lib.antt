@@ -4,3 +4,4 @@ pub mod Found
 pub mod Runs
 pub mod Budget
 pub mod Rising
+pub mod Spans

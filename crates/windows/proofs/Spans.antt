@@ -1,0 +1,129 @@
+-- The span of a track that passes the checks: whole numbers divide with one rounding, so the duration is no longer than the longest track, and a track
+-- that is not brief has a window.
+use mathlib.Core.Path.{_≡_, refl, sym, ap, subst, subst₂, _∙_}
+use mathlib.Core.Logic.{_⊎_, inl, inr}
+use mathlib.Core.Bool.{Bool, true, false, not, cond, true≢false}
+use Prim.Native.Nat.{ℕ, _+_, _*_, _^_, _<_, _≤_}
+use native.Mathlib.Nat.{pos-of-ne-zero, le-of-lt, mul-one, mul-comm, mul-assoc}
+use native.Mathlib.Omega.{arith}
+use lib.Dec.{T, lit<, lit≤}
+use lib.Ieee.{Float, nan, inf, fin, Format, binary32, binary64, prec, add, div, lt, le, fits}
+use lib.Ieee.Scale.{finite, round-same}
+use lib.Ieee.Fits.{fits-widens, round-fits}
+use lib.Ieee.Bits.{is-true}
+use lib.Ieee.Exact.{HasValue}
+use lib.Ieee.Back.{round-whole}
+use lib.Ieee.Positive.{num, den, positive-of-value, value→cross}
+use Rattle.laws.specs.First.{first}
+use Rattle.laws.specs.Values.{plusZero, clear, nonneg, Modest}
+use Rattle.laws.specs.Convert.{parts}
+use Rattle.laws.proofs.First.{first-within, first-or-end}
+use Rattle.laws.proofs.Order.{lt→le, le-right, le-trans, lt-not-le, not-lt→le, apart-le}
+use Rattle.laws.proofs.Nonneg.{nonneg→clear, nonneg→ordered, clear→ordered, Rounds, rounds-clear, rounds-mono, div-rounds, add-clear}
+use Rattle.laws.proofs.Held.{value-nonneg}
+use Rattle.laws.proofs.Zero.{plusZero-add, add-right}
+use Rattle.laws.proofs.Middle.{modest-under}
+use Rattle.laws.proofs.Parts.{whole-is, parts-rounds, parts-modest}
+use Rattle.calls.specs.declared.Settings.{Settings}
+use Rattle.windows.specs.Span.{spanOf, startOf, brief, endsAt, budgetFor, longestTrack, windowsWithin, windowsOf, rowsAsked}
+use Rattle.windows.specs.Rising.{Timed}
+use Rattle.windows.specs.declared.span.Span.{Span}
+use Rattle.windows.proofs.Starts.{start-first}
+
+-- ---- how many windows
+-- no more windows than rows are asked for
+pub windows-asked : (s : Span) → windowsOf s ≤ rowsAsked s
+unfolding windowsOf rowsAsked
+windows-asked s = either (brief s) (windowsWithin (budgetFor longestTrack) s)
+  where
+    either : (b : Bool) (n : ℕ) → cond b 0 n ≤ cond b 1 n
+    either true n = omega arith
+    either false n = omega arith
+
+-- the budget holds the windows far below what a count can be
+pub windows-few : (s : Span) → windowsOf s ≤ 28_801
+unfolding windowsOf windowsWithin
+windows-few s = either (brief s) (first-within (endsAt s) 28_801 0)
+  where
+    either : (b : Bool) → first (endsAt s) 28_801 0 ≤ 0 + 28_801 → cond b 0 (first (endsAt s) 28_801 0) ≤ 28_801
+    either true h = omega arith
+    either false h = omega arith
+
+module _ (s : Span) (timed : Timed s) where
+  -- a window and a hop fit into the duration, so the window at +0 does
+  first-inside : brief s ≡ false → endsAt s 0 ≡ false
+  unfolding brief endsAt
+  first-inside e =
+      let window = s .window in
+      let c = nonneg→clear window (timed .window .at-least-zero) in
+      let both = add binary64 window (s .hop) in
+      let fits-in : T (le both (s .duration)) = not-lt→le (s .duration) both (nonneg→ordered (s .duration) (timed .duration .held .at-least-zero)) (clear→ordered both (add-clear binary64 window (s .hop) c (timed .hop))) (subst (λ (b : Bool). T (not b)) (sym e) tt) in
+      let alone = le-trans window both (s .duration) (add-right binary64 window (s .hop) (timed .window .in-format) c (timed .hop)) fits-in in
+      let at : add binary64 plusZero window ≡ window = plusZero-add binary64 window (timed .window .in-format) c in
+      let here = subst (λ (x : Float). T (le (add binary64 x window) (s .duration))) (start-first s) (subst (λ (x : Float). T (le x (s .duration))) (sym at) alone) in
+      ap not (is-true (le (add binary64 (startOf s 0) window) (s .duration)) here)
+
+  -- a row at least is asked for
+  pub some-asked : 0 < rowsAsked s
+  unfolding rowsAsked windowsWithin
+  some-asked = either (brief s) refl (first-or-end (endsAt s) 28_801 0)
+    where
+      either : (b : Bool) → brief s ≡ b → (endsAt s (first (endsAt s) 28_801 0) ≡ true) ⊎ (first (endsAt s) 28_801 0 ≡ 0 + 28_801) → 0 < cond b 1 (first (endsAt s) 28_801 0)
+      either true e found = omega arith
+      either false e (inl passes) = pos-of-ne-zero (λ none. true≢false (sym passes ∙ ap (endsAt s) none ∙ first-inside e))
+      either false e (inr all) = omega (arith, all)
+
+-- ---- the duration
+-- of a whole number by another the quotient is rounded once
+whole-rounds : (f : Format) (m n : ℕ) → m < 2 ^ prec f → 0 < n → n < 2 ^ prec f → Rounds f (div f (parts f 0 m) (parts f 0 n)) m n
+whole-rounds f m n few some small =
+    let x = parts f 0 m in
+    let y = parts f 0 n in
+    let v : HasValue x false m 1 = round-whole f false m (le-of-lt few) in
+    let w : HasValue y false n 1 = round-whole f false n (le-of-lt small) in
+    let r = div-rounds f x y (value-nonneg x m 1 v) (positive-of-value y n 1 w some) in
+    record { is = r .is ∙ round-same f false (num x * den y) (num y * den x) m n (r .some) some (crossed (num x) (den x) (num y) (den y) (value→cross x m 1 v) (value→cross y n 1 w)); some = some }
+  where
+    crossed : (a p b q : ℕ) → a * 1 ≡ m * p → b * 1 ≡ n * q → a * q * n ≡ m * (b * p)
+    crossed a p b q d e =
+        mul-assoc a q n ∙ ap (λ (z : ℕ). a * z) (mul-comm q n ∙ sym e ∙ mul-one b) ∙ ap (λ (z : ℕ). z * b) (sym (mul-one a) ∙ d) ∙ mul-assoc m p b ∙ ap (λ (z : ℕ). m * z) (mul-comm p b)
+
+rounds-fit : {f : Format} {x : Float} {a c : ℕ} → Rounds f x a c → T (fits f x)
+rounds-fit {f} {x} {a} {c} r = subst (λ (z : Float). T (fits f z)) (sym (r .is)) (round-fits f false a c)
+
+-- what is above +0 has the sign plus
+above-clear : (x : Float) → T (lt plusZero x) → T (clear x)
+above-clear nan h = le-right plusZero nan (lt→le plusZero nan h)
+above-clear (inf true) h = absurd (lt-not-le plusZero (inf true) h (apart-le (inf true) plusZero tt tt))
+above-clear (inf false) h = tt
+above-clear (fin true m e) h = absurd (lt-not-le plusZero (fin true m e) h (apart-le (fin true m e) plusZero tt tt))
+above-clear (fin false m e) h = tt
+
+finite-clear : (x : Float) → T (finite x) → T (clear x) → T (nonneg x)
+finite-clear nan h c = h
+finite-clear (inf s) h c = h
+finite-clear (fin s m e) h c = c
+
+module _ (s : Settings) (count : ℕ) (rated : 0 < s .rate) (slow : s .rate ≤ 192_000) (short : count ≤ longestTrack * s .rate) where
+  lasts : Rounds binary64 (spanOf s count .duration) count (s .rate)
+  unfolding spanOf
+  lasts =
+      subst₂ (λ (x y : Float). Rounds binary64 (div binary64 x y) count (s .rate)) (sym (whole-is binary64 count)) (sym (whole-is binary64 (s .rate)))
+      (whole-rounds binary64 count (s .rate) (omega arith) rated (omega arith))
+
+  pub duration-under : T (le (spanOf s count .duration) (parts binary64 0 longestTrack))
+  duration-under = rounds-mono lasts (parts-rounds binary64 0 longestTrack) (omega arith)
+
+  pub duration-modest : Modest binary64 (spanOf s count .duration)
+  duration-modest =
+      modest-under binary64 (spanOf s count .duration) (parts binary64 0 longestTrack) (rounds-fit lasts) (rounds-clear lasts) (parts-modest binary64 0 (lit≤ tt) longestTrack (lit< tt)) duration-under
+
+  -- a window that is an f32 above +0, and a hop above +0
+  pub span-timed : T (fits binary32 (s .«local_window_seconds»)) → T (finite (s .«local_window_seconds»)) → T (lt plusZero (s .«local_window_seconds»)) → T (lt plusZero (s .«local_hop_seconds»)) → Timed (spanOf s count)
+  unfolding spanOf
+  span-timed fit whole window hop =
+      record {
+        window = record { in-format = fits-widens (s .«local_window_seconds») fit; at-least-zero = finite-clear (s .«local_window_seconds») whole (above-clear (s .«local_window_seconds») window) };
+        hop = above-clear (s .«local_hop_seconds») hop;
+        duration = duration-modest;
+      }
