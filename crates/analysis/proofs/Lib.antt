@@ -3,3 +3,4 @@ mod Rooms
 mod Reports
 mod Louds
 mod Positions
+mod Supplied
