@@ -2,3 +2,4 @@ mod Voting
 mod Parts
 mod Cuts
 pub mod Tiled
+pub mod Few

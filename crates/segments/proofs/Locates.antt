@@ -37,13 +37,13 @@ passed (All n) = true
 passed (Stuck n) = false
 
 -- a run that passed all windows left the estimates of some number of them, no more than there are
-record Passed (s : Span) (h : Heard) (windows : ℕ) (before : EstimateRows) (n : ℕ) (rows : EstimateRows) : Type 0 where
-  upto : ℕ
-  within : upto ≤ windows
-  count : n ≡ length (estimatesBefore s h upto)
-  held : rows ≡ holdingEstimates (estimatesBefore s h upto) before
+pub record Passed (s : Span) (h : Heard) (windows : ℕ) (before : EstimateRows) (n : ℕ) (rows : EstimateRows) : Type 0 where
+  pub upto : ℕ
+  pub within : upto ≤ windows
+  pub count : n ≡ length (estimatesBefore s h upto)
+  pub held : rows ≡ holdingEstimates (estimatesBefore s h upto) before
 
-run-passed : {s : Span} {h : Heard} {windows : ℕ} {before : EstimateRows} {n : ℕ} {rows : EstimateRows} → ran (All n) rows ≡ runOf s h windows before → Passed s h windows before n rows
+pub run-passed : {s : Span} {h : Heard} {windows : ℕ} {before : EstimateRows} {n : ℕ} {rows : EstimateRows} → ran (All n) rows ≡ runOf s h windows before → Passed s h windows before n rows
 unfolding runOf
 run-passed {s} {h} {windows} {before} {n} {rows} e = either (ltb k windows) e
   where
