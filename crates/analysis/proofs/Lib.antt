@@ -4,3 +4,4 @@ mod Reports
 mod Louds
 mod Positions
 mod Supplied
+mod Outcomes

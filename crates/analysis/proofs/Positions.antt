@@ -24,11 +24,11 @@ module _ (c : Call) (positions : ℕ) (l : Lent) {filled : Filled} {now : Rows} 
         energies = left .energies;
         work = omega (arith, left .few, supplied .work);
         prepared =
-          record {
-            ready = record { timed = left .centres; valued = left .values; centres = ready .centres; keys = ready .keys; confidences = ready .confidences };
-            room = supplied .prepared .room;
-            one = supplied .prepared .one;
-          };
+            record {
+              ready = record { timed = left .centres; valued = left .values; centres = ready .centres; keys = ready .keys; confidences = ready .confidences };
+              room = supplied .prepared .room;
+              one = supplied .prepared .one;
+            };
       }
 
   -- what follows from the run's answer

@@ -26,7 +26,7 @@ enum-known-frames : tie.Need-enum-known-frames
 enum-known-frames c = search needs
 
 analyse-frames-requires : tie.Need-analyse-frames-requires
-analyse-frames-requires c κs = 
+analyse-frames-requires c κs =
     let fill = c .before .before .before .before .before .before .before .before .before .before .before .before .before .before .before .before .before .before .before in
     let start = fill .before .before .before .before .before .before .before .before .before .before .before .before .before .before .before .before .before .before .before .before .before in
     stocked-so (asked start) (start .args .positions) (rented start) (fill .fill-rows .ensures) (c .before .before .before .before .before .before .before .before .before .before .before .before .frames .given .1) (start .pre)
@@ -41,7 +41,7 @@ same-length-3 : tie.Need-same-length-3
 same-length-3 c = search needs
 
 returns : tie.Need-returns
-returns c = 
+returns c =
     let fill = c .before .before .before .before .before .before .before .before .before in
     let start = fill .before .before .before .before .before .before .before .before .before .before .before .before .before .before .before .before .before .before .before .before .before in
     not-finite-so (asked start) (start .args .positions) (rented start) (fill .fill-rows .ensures) (c .before .before .position .given .1) (c .keyless .ensures)
@@ -80,7 +80,7 @@ same-length-14 : tie.Need-same-length-14
 same-length-14 c = search needs
 
 returns-2 : tie.Need-returns-2
-returns-2 c = 
+returns-2 c =
     let told = c .before .before .before .before .before .before .before .before .before .before .before .before .before .before .before .before in
     let fill = told .before .before .before .before .before .before .before .before .before .before .before .before .before .before .before .before .before .before .before .before in
     let start = fill .before .before .before .before .before .before .before .before .before .before .before .before .before .before .before .before .before .before .before .before .before in

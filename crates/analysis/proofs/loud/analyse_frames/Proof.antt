@@ -12,7 +12,7 @@ keyless-requires : tie.Need-keyless-requires
 keyless-requires c κs = search needs
 
 returns : tie.Need-returns
-returns c = 
+returns c =
     let args = c .before .before .before .before .before .before .before .before .before .before .before .before .args in
     none-loud (args .settings) (args .samples) (args .frames) (lent (rows (args .centres .now) (args .values .now) (args .energies .now)) (args .work .now) (estimateRows (args .middles .now) (args .numbers .now) (args .certainties .now)) (segmentRows (args .starts .now) (args .ends .now) (args .keys .now) (args .confidences .now))) (c .before .if1 .taken) (c .keyless .ensures)
 
@@ -29,7 +29,7 @@ same-length : tie.Need-same-length
 same-length c = search needs
 
 returns-2 : tie.Need-returns-2
-returns-2 c = 
+returns-2 c =
     let medians = c .before .before .before .before .before .before in
     let args = medians .before .before .before .before .before .before .before .before .before .before .before .before .before .args in
     faint-so (args .settings) (args .samples) (args .frames) (lent (rows (args .centres .now) (args .values .now) (args .energies .now)) (args .work .now) (estimateRows (args .middles .now) (args .numbers .now) (args .certainties .now)) (segmentRows (args .starts .now) (args .ends .now) (args .keys .now) (args .confidences .now))) (medians .before .before .if1 .left) (medians .weighted-medians .ensures .0) (c .before .before .is-faint .ensures) (medians .weighted-medians .ensures .1) (c .before .if2 .taken) (c .keyless2 .ensures)
@@ -65,7 +65,7 @@ same-length-9 : tie.Need-same-length-9
 same-length-9 c = search needs
 
 returns-3 : tie.Need-returns-3
-returns-3 c = 
+returns-3 c =
     let report = c .before .before .before .before .before .before .before .before .before .before .before .before .before .before in
     let verdict = report .before .before .before .before .before .before .before .before in
     let test = verdict .before .before in

@@ -15,7 +15,7 @@ track-of-requires : tie.Need-track-of-requires
 track-of-requires c κs = search needs
 
 locate-segments-requires : tie.Need-locate-segments-requires
-locate-segments-requires c κs = 
+locate-segments-requires c κs =
     let track = c .before .before .before .before .before .before .before in
     prepared-span (track .before .span-of .ensures) (track .before .before .before .before .before .before .before .before .before .before .pre)
 
@@ -29,7 +29,7 @@ enum-known-estimates-2 : tie.Need-enum-known-estimates-2
 enum-known-estimates-2 c = search needs
 
 name-keys-requires : tie.Need-name-keys-requires
-name-keys-requires c κs = 
+name-keys-requires c κs =
     let locate = c .before .before .before .before .before .before .before .before .before .before .before .before .before .before .before .before .before .before .before .before .before in
     let track = locate .before .before .before .before .before .before .before .before in
     let start = track .before .before .before .before .before .before .before .before .before .before in
@@ -58,7 +58,7 @@ same-length-7 : tie.Need-same-length-7
 same-length-7 c = search needs
 
 returns : tie.Need-returns
-returns c = 
+returns c =
     let locate = c .before .before .before .before .before .before .before .before .before .before .before .before .before .before .before .before .before .before in
     let track = locate .before .before .before .before .before .before .before .before in
     let start = track .before .before .before .before .before .before .before .before .before .before in
@@ -87,7 +87,7 @@ same-length-14 : tie.Need-same-length-14
 same-length-14 c = search needs
 
 returns-2 : tie.Need-returns-2
-returns-2 c = 
+returns-2 c =
     let locate = c .before .before .before .before .before .before .before .before .before .before .before .before .before .before .before .before .before .before .before .before .before .before in
     let track = locate .before .before .before .before .before .before .before .before in
     let start = track .before .before .before .before .before .before .before .before .before .before in
