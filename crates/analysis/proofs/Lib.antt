@@ -1,7 +1,8 @@
--- What the proofs of an analysis share.
+-- What the proofs of an analysis share, and demand 3.
 mod Rooms
 mod Reports
 mod Louds
 mod Positions
 mod Supplied
 mod Outcomes
+pub mod Demand
