@@ -7,7 +7,7 @@ use lib.Ieee.{Float, nan, binary32, div, lt}
 use Rattle.laws.specs.Front.{list}
 use Rattle.laws.specs.Values.{plusZero, epsilon}
 use Rattle.numbers.specs.Sum.{sumOf}
-use Rattle.numbers.specs.Root.{rootOf}
+use Rattle.roots.specs.Root.{rootOf}
 
 -- the square root of a value above 0; any other stays
 unfoldable pub whitened : Float → Float

@@ -7,7 +7,7 @@ use lib.ListN.{getD}
 use lib.Ieee.{Float, nan, binary32, ofBits, add, sub, mul}
 use Rattle.laws.specs.Values.{plusZero, one}
 use Rattle.laws.specs.Pick.{maximumNumber}
-use Rattle.numbers.specs.Root.{rootOf}
+use Rattle.roots.specs.Root.{rootOf}
 
 -- 1 and four times the rise of the energies' square roots; 0x4080_0000 is 4
 unfoldable pub onsetWeight : Float → Float → Float

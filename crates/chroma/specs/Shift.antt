@@ -8,7 +8,7 @@ use lib.ListN.{length, getD}
 use lib.Ieee.{Float, nan, binary32, add, sub, mul, lt, ofBits, ofInt, toSigned}
 use Rattle.laws.specs.Front.{list}
 use Rattle.laws.specs.Values.{one, magnitudeOf}
-use Rattle.numbers.specs.Floor.{floored}
+use Rattle.floors.specs.Floor.{floored}
 
 -- Rust's `rem_euclid(12)`: -1 is 11
 abbrev pub remainder : ℤ → ℕ

@@ -1,8 +1,8 @@
 // Whitening and normalising the twelve values of a chroma.
 ghost use mathlib.Core.Path.{_≡_};
 ghost use Rattle.chroma.specs.Levels.{whitened, whitenedOf, dividedBy, normalizedOf};
-use numbers::root::square_root;
 use numbers::twelve::sum_of_twelve;
+use roots::square_root;
 
 // The square root of a value above 0; any other stays.
 fn whiten_value(x: f32) -> f32

@@ -3,8 +3,8 @@ ghost use mathlib.Core.Path.{_≡_};
 ghost use Prim.Native.Nat.{_<_};
 ghost use lib.ListN.{length};
 ghost use Rattle.chroma.specs.Onsets.{onsetWeight, weightAt};
-use numbers::root::square_root;
 use numbers::single::larger;
+use roots::square_root;
 
 // 1 and four times the rise of the energies' square roots.
 fn onset_weight(before: f32, energy: f32) -> f32

@@ -2,10 +2,10 @@
 ghost use mathlib.Core.Path.{_≡_};
 ghost use lib.IntN.{pos, negℤ};
 ghost use Rattle.chroma.specs.Shift.{remainder, classOf, blended, readAt, shiftedOf, retunedOf};
+use floors::floor;
 use numbers::single::is_nan;
 use numbers::single::is_negative;
 use numbers::single::magnitude;
-use numbers::whole::floor;
 
 // The pitch class of minus n: around the circle downward.
 fn class_below(n: u64) -> usize

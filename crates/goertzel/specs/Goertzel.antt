@@ -8,7 +8,7 @@ use lib.Ieee.{Float, nan, binary32, ofBits, add, mul}
 use Rattle.laws.specs.Front.{list}
 use Rattle.laws.specs.Pick.{maximumNumber}
 use Rattle.laws.specs.Values.{plusZero}
-use Rattle.numbers.specs.Root.{rootOf}
+use Rattle.roots.specs.Root.{rootOf}
 use Rattle.calls.specs.Call.{Call}
 use Rattle.filters.specs.Resonator.{windowedOf, resonated, powerOf}
 use Rattle.filters.specs.Classes.{addedByClass, weightsByClass, dividedByClass}

@@ -13,8 +13,8 @@ use filters::resonator::GoertzelRow;
 use filters::resonator::power;
 use filters::resonator::step;
 use filters::resonator::windowed;
-use numbers::root::square_root;
 use numbers::single::larger;
+use roots::square_root;
 
 // The frame that starts at `start`, through one resonator.
 fn run_frame(samples: &[f32], start: usize, window: &[f32], coefficient: f32) -> Delay

@@ -1,3 +1,2 @@
 -- What the functions' proofs share, and the theorem on numbers.
 pub mod Placed
-pub mod Letters

@@ -1,5 +1,4 @@
-// Keys: twelve tonics and two modes, their numbers and names, and which keys are relatives.
-pub mod names;
+// Keys: twelve tonics and two modes, their numbers, and which keys are relatives.
 pub mod numbers;
 
 // The Rust's PitchClass.

@@ -10,6 +10,7 @@ pub mod Leader
 pub mod Cases
 pub mod Signs
 pub mod Patterns
+pub mod Closest
 pub mod Order
 pub mod Nonneg
 pub mod Held

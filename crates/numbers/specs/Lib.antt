@@ -1,5 +1,1 @@
 pub mod Sum
-pub mod Floor
-pub mod Root
-pub mod Steps
-pub mod Meaning

@@ -1,9 +1,6 @@
 // The number leaves: each is right for every input, by IEEE 754-2019. Definitions are in specs/ here
 // and in the crate laws.
-pub mod convert;
 pub mod counts;
 pub mod double;
-pub mod root;
 pub mod single;
 pub mod twelve;
-pub mod whole;

@@ -4,7 +4,7 @@ ghost use Prim.Native.Nat.{_^_, _≤_, _<_};
 ghost use Rattle.packed.specs.Packing.{numberOr, wholeTimes, thousandthsOf, millisecondsOf, upTo, nearestOf, raisedOf};
 use bits::masks::high_bits;
 use bits::masks::low_bits;
-use numbers::convert::widen;
+use conversions::widen;
 use numbers::double::is_nan;
 
 // A packed number, or none.

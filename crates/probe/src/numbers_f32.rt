@@ -4,32 +4,32 @@ ghost use lib.Ieee.{binary32};
 ghost use lib.Ieee.Scale.{finite};
 ghost use Rattle.laws.specs.Order.{totalOrder, orderKey};
 ghost use Rattle.laws.specs.Pick.{maximumNumber, minimumNumber};
-ghost use Rattle.numbers.specs.Floor.{floored};
-ghost use Rattle.numbers.specs.Root.{rootOf};
-use numbers::convert;
-use numbers::root;
+ghost use Rattle.floors.specs.Floor.{floored};
+ghost use Rattle.roots.specs.Root.{rootOf};
+use conversions::widen;
+use floors::floor;
 use numbers::single;
-use numbers::whole;
+use roots::square_root;
 
 #[no_mangle]
 pub extern "C" fn probe_square_root(x: f32) -> f32
     ensures { λ r. ⌜ r ≡ rootOf x ⌝ }
 {
-    root::square_root(x)
+    square_root(x)
 }
 
 #[no_mangle]
 pub extern "C" fn probe_floor(x: f32) -> f32
     ensures { λ r. ⌜ r ≡ floored x ⌝ }
 {
-    whole::floor(x)
+    floor(x)
 }
 
 #[no_mangle]
 pub extern "C" fn probe_widen(x: f32) -> f64
     ensures { λ r. ⌜ r ≡ x ⌝ }
 {
-    convert::widen(x)
+    widen(x)
 }
 
 #[no_mangle]

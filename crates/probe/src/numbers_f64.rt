@@ -5,14 +5,14 @@ ghost use lib.Ieee.Scale.{finite};
 ghost use Rattle.laws.specs.Convert.{converted};
 ghost use Rattle.laws.specs.Order.{totalOrder, orderKey};
 ghost use Rattle.laws.specs.Pick.{maximumNumber, minimumNumber};
-use numbers::convert;
+use conversions::narrow;
 use numbers::double;
 
 #[no_mangle]
 pub extern "C" fn probe_narrow(x: f64) -> f32
     ensures { λ r. ⌜ r ≡ converted binary32 x ⌝ }
 {
-    convert::narrow(x)
+    narrow(x)
 }
 
 #[no_mangle]

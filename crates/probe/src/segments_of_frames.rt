@@ -5,7 +5,7 @@ ghost use Rattle.timeline.specs.Segments.{lentSegments};
 ghost use Rattle.probe.specs.Segments.{heardIn, probedTrack, fitsIn, countedBy, probed, probedSegments};
 use crate::segments_of_rows::track_of;
 use calls::Settings;
-use numbers::convert::widen;
+use conversions::widen;
 use numbers::counts::fewer;
 use segments::fill::Track;
 use segments::track::Located;

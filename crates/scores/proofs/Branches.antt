@@ -7,7 +7,7 @@ use lib.Ieee.{Float, binary32, ofBits, sub, mul, div, lt}
 use Rattle.laws.specs.Values.{magnitudeOf, plusZero, one, epsilon}
 use Rattle.laws.specs.Pick.{maximumNumber, clampedTo}
 use Rattle.numbers.specs.Sum.{sumOf}
-use Rattle.numbers.specs.Root.{rootOf}
+use Rattle.roots.specs.Root.{rootOf}
 use Rattle.keys.specs.Numbers.{areRelativeKeys}
 use Rattle.scores.specs.declared.correlation.Sums.{Sums}
 use Rattle.scores.specs.declared.places.Place.{Place}

@@ -7,7 +7,7 @@ use Rattle.laws.specs.Turns.{turns}
 use Rattle.laws.specs.Values.{plusZero, epsilon}
 use Rattle.laws.specs.Pick.{maximumNumber}
 use Rattle.numbers.specs.Sum.{sumOf}
-use Rattle.numbers.specs.Root.{rootOf}
+use Rattle.roots.specs.Root.{rootOf}
 use Rattle.scores.specs.declared.correlation.Sums.{Sums}
 
 -- the mean of twelve values; 0x4140_0000 is 12

@@ -4,9 +4,9 @@ ghost use Prim.Native.Nat.{_<_};
 ghost use Rattle.scores.specs.Profiles.{profileAt};
 ghost use Rattle.scores.specs.Correlation.{added, sumsOf, correlationOf};
 use crate::profiles::PROFILES;
-use numbers::root::square_root;
 use numbers::single::larger;
 use numbers::twelve::sum_of_twelve;
+use roots::square_root;
 
 // The running sums of a correlation: products, and squares of either side.
 pub struct Sums {

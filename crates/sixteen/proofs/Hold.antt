@@ -9,9 +9,9 @@ use Rattle.laws.specs.Order.{totalOrder}
 use Rattle.laws.specs.Convert.{converted}
 use Rattle.laws.specs.Pick.{maximumNumber, minimumNumber, clampedTo}
 use Rattle.numbers.specs.Sum.{sumOf}
-use Rattle.numbers.specs.Floor.{floored}
+use Rattle.floors.specs.Floor.{floored}
 use Rattle.chroma.specs.Shift.{classOf, blended, readAt, shifted}
-use Rattle.numbers.specs.Root.{wholeRoot, doubledRoot, rootOfUnits, rootOf}
+use Rattle.roots.specs.Root.{wholeRoot, doubledRoot, rootOfUnits, rootOf}
 use Rattle.keys.specs.Numbers.{tonics}
 use Rattle.scores.specs.Profiles.{profiles, profileAt}
 use Rattle.scores.specs.Correlation.{sumsOf, quotientOf, correlationOf}

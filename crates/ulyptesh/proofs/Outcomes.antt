@@ -16,7 +16,7 @@ use Rattle.ulyptesh.specs.FromChroma.{scoresOutcome, scoresCall, judged,
 use Rattle.laws.specs.Front.{front}
 use Rattle.keys.specs.declared.Key.{Key}
 use Rattle.keys.specs.Numbers.{keyAt}
-use Rattle.keys.specs.Names.{nameOf}
+use Rattle.key_names.specs.Names.{nameOf}
 use Rattle.ulyptesh.specs.declared.written.Written.{Written}
 use Rattle.ulyptesh.specs.Written.{answered, outcome}
 use Rattle.ulyptesh.specs.KeyNames.{keyNameOf}

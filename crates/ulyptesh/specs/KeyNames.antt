@@ -7,7 +7,7 @@ use lib.ListN.{length}
 use Rattle.laws.specs.Front.{front}
 use Rattle.laws.specs.Table.{_gives_, firstOf}
 use Rattle.keys.specs.Numbers.{keyAt}
-use Rattle.keys.specs.Names.{nameOf}
+use Rattle.key_names.specs.Names.{nameOf}
 use Rattle.ulyptesh.specs.Written.{Outcome, answered, outcome}
 
 -- 11 for a number above 23 and 12 for too few bytes leave the bytes as they are; else the name stands at their front

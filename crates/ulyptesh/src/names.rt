@@ -4,8 +4,8 @@ ghost use Rattle.ulyptesh.specs.KeyNames.{keyNameOf};
 ghost use Rattle.ulyptesh.specs.Written.{outcome};
 use crate::written::Written;
 use crate::written::refused;
-use keys::names::name_length;
-use keys::names::write_name;
+use key_names::name_length;
+use key_names::write_name;
 use keys::numbers::key_from_index;
 
 // Writes the name of the key with this number from the front of `bytes`. Refusals: 11 a number above

@@ -3,7 +3,7 @@ ghost use mathlib.Core.Path.{_≡_};
 ghost use Prim.Native.Nat.{_<_, _^_};
 ghost use Rattle.windows.specs.Span.{spanOf, brief, budgetFor, longestTrack, windowsWithin, windowsOf, rowsAsked};
 use calls::Settings;
-use numbers::convert::widen;
+use conversions::widen;
 
 // A window's length, the hop to the next one and the track's duration, in seconds.
 pub struct Span {
