@@ -41,13 +41,13 @@ use Rattle.alternates.proofs.Named.{named-exactly}
 use Rattle.alternates.proofs.Tiled.{tiled-total-finite}
 use Rattle.analysis.specs.Lent.{Lent, withFrames, workZeroed, withSegments}
 use Rattle.analysis.specs.Room.{hasty, roomOf}
-use Rattle.analysis.specs.Verdict.{faint, verdictOf}
-use Rattle.analysis.specs.Answer.{counts, keyless, withKey}
-use Rattle.analysis.specs.Report.{trackOf, namedIn, toldBy, reportOf}
+use Rattle.verdicts.specs.Verdict.{faint, verdictOf}
+use Rattle.verdicts.specs.Answer.{counts, keyless, withKey}
+use Rattle.reports.specs.Report.{trackOf, namedIn, toldBy, reportOf}
 use Rattle.analysis.specs.Analyse.{outcome, heardIn, reportedIn, framesAnalysed, filledAnalysed, positionsAnalysed, afterChecks, tableOf}
 use Rattle.analysis.specs.Demand.{Alternating, DemandThree, Typed, AnalysisKeeps}
-use Rattle.analysis.specs.declared.answer.Counts.{Counts}
-use Rattle.analysis.specs.declared.verdict.Verdict.{Verdict}
+use Rattle.verdicts.specs.declared.answer.Counts.{Counts}
+use Rattle.verdicts.specs.declared.verdict.Verdict.{Verdict}
 use Rattle.analysis.proofs.Supplied.{passed-timed}
 
 -- ---- the alternate

@@ -1,6 +1,5 @@
 -- What the proofs of an analysis share, and demand 3.
 mod Rooms
-mod Reports
 mod Louds
 mod Positions
 mod Supplied

@@ -13,12 +13,12 @@ use Rattle.chroma.specs.Weighted.{weightedMedians}
 use Rattle.timeline.specs.Estimates.{EstimateRows}
 use Rattle.timeline.specs.Segments.{SegmentRows}
 use Rattle.analysis.specs.Lent.{Lent, lent, workZeroed}
-use Rattle.analysis.specs.Verdict.{faint, verdictOf}
-use Rattle.analysis.specs.Answer.{keyless}
-use Rattle.analysis.specs.Report.{reported, reportOf}
+use Rattle.verdicts.specs.Verdict.{faint, verdictOf}
+use Rattle.verdicts.specs.Answer.{keyless}
+use Rattle.reports.specs.Report.{reported, reportOf}
 use Rattle.analysis.specs.Analyse.{outcome, heardIn, reportedIn, framesAnalysed}
-use Rattle.analysis.specs.declared.answer.AnalyseResult.{AnalyseResult}
-use Rattle.analysis.specs.declared.verdict.Verdict.{Verdict}
+use Rattle.verdicts.specs.declared.answer.AnalyseResult.{AnalyseResult}
+use Rattle.verdicts.specs.declared.verdict.Verdict.{Verdict}
 
 module _ (s : Settings) (count frames : ℕ) (l : Lent) where
   abbrev medians : List Float

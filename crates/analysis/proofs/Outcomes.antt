@@ -12,9 +12,9 @@ use Rattle.timeline.specs.Estimates.{estimateRoom}
 use Rattle.timeline.specs.Segments.{segmentRoom}
 use Rattle.analysis.specs.Lent.{Lent}
 use Rattle.analysis.specs.Room.{hasty, roomFor, roomOf}
-use Rattle.analysis.specs.Answer.{keyless}
+use Rattle.verdicts.specs.Answer.{keyless}
 use Rattle.analysis.specs.Analyse.{Outcome, outcome, positionsAnalysed, afterChecks, tableOf, analysed}
-use Rattle.analysis.specs.declared.answer.AnalyseResult.{AnalyseResult}
+use Rattle.verdicts.specs.declared.answer.AnalyseResult.{AnalyseResult}
 
 module _ (c : Call) (l : Lent) where
   -- the room that the call finds in all that it is lent

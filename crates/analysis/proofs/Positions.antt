@@ -10,9 +10,9 @@ use Rattle.frames.specs.declared.run.Filled.{Filled}
 use Rattle.frames.specs.declared.run.Filled.the-variants.{All, NotFinite}
 use Rattle.frames.proofs.Left.{run-left}
 use Rattle.analysis.specs.Lent.{Lent, withFrames}
-use Rattle.analysis.specs.Answer.{keyless}
+use Rattle.verdicts.specs.Answer.{keyless}
 use Rattle.analysis.specs.Analyse.{Outcome, outcome, framesAnalysed, filledAnalysed, ranAnalysed, positionsAnalysed, Stocked, Supplied}
-use Rattle.analysis.specs.declared.answer.AnalyseResult.{AnalyseResult}
+use Rattle.verdicts.specs.declared.answer.AnalyseResult.{AnalyseResult}
 
 module _ (c : Call) (positions : ℕ) (l : Lent) {filled : Filled} {now : Rows} (run : ran filled now ≡ runOf c positions (l .frames)) where
   pub stocked-so : {n : ℕ} → filled ≡ All n → Supplied c positions l → Stocked (c .settings) (length (c .samples)) n (withFrames now l)

@@ -19,11 +19,11 @@ use Rattle.windows.specs.Gather.{Heard, heard}
 use Rattle.segments.specs.Track.{Prepared}
 use Rattle.analysis.specs.Lent.{Lent, withFrames, workZeroed, withSegments}
 use Rattle.analysis.specs.Room.{hasty, roomOf}
-use Rattle.analysis.specs.Verdict.{faint, verdictOf}
-use Rattle.analysis.specs.Answer.{keyless}
-use Rattle.analysis.specs.Report.{Reported, reportOf}
-use Rattle.analysis.specs.declared.answer.AnalyseResult.{AnalyseResult}
-use Rattle.analysis.specs.declared.verdict.Verdict.{Verdict}
+use Rattle.verdicts.specs.Verdict.{faint, verdictOf}
+use Rattle.verdicts.specs.Answer.{keyless}
+use Rattle.reports.specs.Report.{Reported, reportOf}
+use Rattle.verdicts.specs.declared.answer.AnalyseResult.{AnalyseResult}
+use Rattle.verdicts.specs.declared.verdict.Verdict.{Verdict}
 
 -- what the call answers, and what it leaves in all that it was lent
 pub record Outcome : Type 0 where

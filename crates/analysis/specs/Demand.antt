@@ -14,7 +14,7 @@ use Rattle.windows.specs.Span.{spanOf}
 use Rattle.alternates.specs.Named.{Reaches, Rightly}
 use Rattle.analysis.specs.Lent.{Lent}
 use Rattle.analysis.specs.Analyse.{Outcome, analysed}
-use Rattle.analysis.specs.declared.answer.AnalyseResult.{AnalyseResult}
+use Rattle.verdicts.specs.declared.answer.AnalyseResult.{AnalyseResult}
 
 -- the samples over the rate, in seconds
 abbrev pub durationOf : Call → Float
@@ -39,10 +39,9 @@ pub record Kept (c : Call) (o : Outcome) : Type 0 where
 abbrev pub DemandThree : Call → Outcome → Type 0
 DemandThree c o = o .answer .key < 24 → Kept c o
 
--- the window's and the hop's length are f32, as every caller's are
+-- the window's length is an f32, as every caller's is
 pub record Typed (s : Settings) : Type 0 where
   pub window : T (fits binary32 (s .«local_window_seconds»))
-  pub hop : T (fits binary32 (s .«local_hop_seconds»))
 
 -- it holds of every call, whatever is lent
 abbrev pub AnalysisKeeps : Type 0

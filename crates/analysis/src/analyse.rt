@@ -5,8 +5,6 @@ ghost use Rattle.calls.specs.Rows.{lentRows};
 ghost use Rattle.frames.specs.Run.{Ready};
 ghost use Rattle.analysis.specs.Lent.{lentAll};
 ghost use Rattle.analysis.specs.Analyse.{outcome, positionsAnalysed, analysed, Supplied};
-use crate::answer::AnalyseResult;
-use crate::answer::keyless;
 use crate::loud::analyse_frames;
 use crate::room::is_hasty;
 use crate::room::room_for;
@@ -20,6 +18,8 @@ use frames::run::fill_rows;
 use numbers::counts::fewer;
 use timeline::estimate::estimate_room;
 use timeline::segment::segment_room;
+use verdicts::answer::AnalyseResult;
+use verdicts::answer::keyless;
 
 // All frame positions in turn, and the analysis of the loud ones where each is finite.
 fn analyse_positions(

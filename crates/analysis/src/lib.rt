@@ -1,7 +1,4 @@
 // The whole analysis of a track, from the checks to the alternate key: the Rust's `analyze`.
 pub mod analyse;
-pub mod answer;
 pub mod loud;
-pub mod report;
 pub mod room;
-pub mod verdict;

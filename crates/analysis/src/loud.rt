@@ -2,13 +2,13 @@
 ghost use mathlib.Core.Path.{_≡_};
 ghost use Rattle.analysis.specs.Lent.{lentAll};
 ghost use Rattle.analysis.specs.Analyse.{outcome, framesAnalysed, Stocked};
-use crate::answer::AnalyseResult;
-use crate::answer::keyless;
-use crate::report::report_track;
-use crate::verdict::is_faint;
-use crate::verdict::judge_medians;
 use calls::Settings;
 use chroma::weighted::weighted_medians;
+use reports::report::report_track;
+use verdicts::answer::AnalyseResult;
+use verdicts::answer::keyless;
+use verdicts::verdict::is_faint;
+use verdicts::verdict::judge_medians;
 
 // The empty analysis where no frame is loud or the medians are faint; else what the medians tell.
 pub fn analyse_frames(

@@ -4,6 +4,7 @@ use Rattle.ulyptesh.specs.FromChroma.{ScoresUnique, KeyUnique}
 use Rattle.ulyptesh.specs.KeyNames.{KeyNameUnique}
 use Rattle.ulyptesh.specs.Cards.{CardUnique}
 use Rattle.ulyptesh.specs.FramesOnly.{FramesUnique}
+use Rattle.ulyptesh.specs.Analysis.{AnalyseUnique}
 
 pub scores-unique : ScoresUnique
 scores-unique chroma places a b p q = p ∙ sym q
@@ -19,3 +20,6 @@ card-unique analysis bytes a b p q = p ∙ sym q
 
 pub frames-unique : FramesUnique
 frames-unique c lent a b p q = p ∙ sym q
+
+pub analyse-unique : AnalyseUnique
+analyse-unique c lent a b p q = p .outcome-is ∙ sym (q .outcome-is)

@@ -3,3 +3,4 @@ pub mod Written
 pub mod KeyNames
 pub mod Cards
 pub mod FramesOnly
+pub mod Analysis

@@ -1,13 +1,12 @@
 // The call "analyse".
-ghost use mathlib.Core.Path.{_≡_};
 ghost use Rattle.calls.specs.Call.{given};
 ghost use Rattle.analysis.specs.Lent.{lentAll};
-ghost use Rattle.analysis.specs.Analyse.{outcome, analysed};
-ghost use Rattle.analysis.specs.Demand.{DemandThree};
+ghost use Rattle.analysis.specs.Analyse.{outcome};
+ghost use Rattle.ulyptesh.specs.Analysis.{Promised};
 use analysis::analyse::analyse;
-use analysis::answer::AnalyseResult;
 use calls::Settings;
 use calls::SheetHead;
+use verdicts::answer::AnalyseResult;
 
 // Analyses a track: loud frames, estimates and segments go into the lent rows from the front, and the answer tells
 // the key, the alternate and how many rows are written. Refusals 1 to 8 by the table; 9 a loud frame that is not
@@ -35,7 +34,7 @@ pub extern "C" fn ulyptesh_analyse(
     keys: &mut [u8],
     confidences: &mut [f32],
 ) -> AnalyseResult
-    ensures { λ r. ⌜ (outcome r (lentAll (centres .exit) (values .exit) (energies .exit) (work .exit) (middles .exit) (numbers .exit) (certainties .exit) (starts .exit) (ends .exit) (keys .exit) (confidences .exit)) ≡ analysed (given settings head (samples .entry) (window .entry) (coefficients .entry) (weights .entry) (lengths .entry) (qcoefficients .entry) (qwindows .entry)) (lentAll (centres .entry) (values .entry) (energies .entry) (work .entry) (middles .entry) (numbers .entry) (certainties .entry) (starts .entry) (ends .entry) (keys .entry) (confidences .entry))) × DemandThree (given settings head (samples .entry) (window .entry) (coefficients .entry) (weights .entry) (lengths .entry) (qcoefficients .entry) (qwindows .entry)) (outcome r (lentAll (centres .exit) (values .exit) (energies .exit) (work .exit) (middles .exit) (numbers .exit) (certainties .exit) (starts .exit) (ends .exit) (keys .exit) (confidences .exit))) ⌝ }
+    ensures { λ r. ⌜ Promised (given settings head (samples .entry) (window .entry) (coefficients .entry) (weights .entry) (lengths .entry) (qcoefficients .entry) (qwindows .entry)) (lentAll (centres .entry) (values .entry) (energies .entry) (work .entry) (middles .entry) (numbers .entry) (certainties .entry) (starts .entry) (ends .entry) (keys .entry) (confidences .entry)) (outcome r (lentAll (centres .exit) (values .exit) (energies .exit) (work .exit) (middles .exit) (numbers .exit) (certainties .exit) (starts .exit) (ends .exit) (keys .exit) (confidences .exit))) ⌝ }
 {
     analyse(
         settings,

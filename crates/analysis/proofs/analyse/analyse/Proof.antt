@@ -33,12 +33,12 @@ told c known e =
     (room-is (asked (start c)) (rented (start c)) (frames .before .fewest .ensures) (frames .fewer .ensures) (estimates .estimate-room .ensures) (segments .segment-room .ensures) (room .room-for .ensures))
     (c .check .ensures) e
 
--- a note is a byte, and the settings are f32
+-- a note is a byte, and a setting an f32
 byte-note : (s : tie.Start) → s .args .head .«maximum_midi_note» < 256
 byte-note s = search needs
 
 typed : (s : tie.Start) → Typed (s .args .settings)
-typed s = record { window = search needs; hop = search needs }
+typed s = record { window = search needs }
 
 fewest-requires : tie.Need-fewest-requires
 fewest-requires c κs = search needs
@@ -134,37 +134,37 @@ returns-2 c =
     empty-so (asked (start answer)) (rented (start answer)) (told answer _ (c .before .enum-told .given .1)) (c .keyless2 .ensures)
 
 same-length-15 : tie.Need-same-length-15
-same-length-15 c = search needs
+same-length-15 c = c .before .before .before .before .before .before .before .before .before .before .before .before .before .before .before .before .before .before .before .before .centres .given
 
 same-length-16 : tie.Need-same-length-16
-same-length-16 c = search needs
+same-length-16 c = c .before .before .before .before .before .before .before .before .before .before .before .before .before .before .before .before .before .before .values .given
 
 same-length-17 : tie.Need-same-length-17
-same-length-17 c = search needs
+same-length-17 c = c .before .before .before .before .before .before .before .before .before .before .before .before .before .before .before .before .before .energies .given
 
 same-length-18 : tie.Need-same-length-18
-same-length-18 c = search needs
+same-length-18 c = c .before .before .before .before .before .before .before .before .before .before .before .before .before .before .before .work .given
 
 same-length-19 : tie.Need-same-length-19
-same-length-19 c = search needs
+same-length-19 c = c .before .before .before .before .before .before .before .before .before .before .before .before .before .middles .given
 
 same-length-20 : tie.Need-same-length-20
-same-length-20 c = search needs
+same-length-20 c = c .before .before .before .before .before .before .before .before .before .before .before .numbers .given
 
 same-length-21 : tie.Need-same-length-21
-same-length-21 c = search needs
+same-length-21 c = c .before .before .before .before .before .before .before .before .before .certainties .given
 
 same-length-22 : tie.Need-same-length-22
-same-length-22 c = search needs
+same-length-22 c = c .before .before .before .before .before .before .before .starts .given
 
 same-length-23 : tie.Need-same-length-23
-same-length-23 c = search needs
+same-length-23 c = c .before .before .before .before .before .ends .given
 
 same-length-24 : tie.Need-same-length-24
-same-length-24 c = search needs
+same-length-24 c = c .before .before .before .keys .given
 
 same-length-25 : tie.Need-same-length-25
-same-length-25 c = search needs
+same-length-25 c = c .before .confidences .given
 
 returns-3 : tie.Need-returns-3
 returns-3 c =

@@ -1,0 +1,116 @@
+// From the verdict on a track to the answer: segments, the reported key and the alternate key.
+ghost use mathlib.Core.Path.{_≡_};
+ghost use Rattle.timeline.specs.Estimates.{lentEstimates};
+ghost use Rattle.timeline.specs.Segments.{lentSegments, segmentsIn, Room};
+ghost use Rattle.windows.specs.Span.{spanOf};
+ghost use Rattle.windows.specs.Gather.{heard};
+ghost use Rattle.segments.specs.Track.{Prepared};
+ghost use Rattle.reports.specs.Report.{trackOf, namedIn, reported, reportOf};
+use alternates::alternate::alternate_key;
+use alternates::longest::reported_key;
+use calls::Settings;
+use conversions::widen;
+use segments::fill::Track;
+use segments::track::Located;
+use segments::track::locate_segments;
+use verdicts::answer::AnalyseResult;
+use verdicts::answer::Counts;
+use verdicts::answer::keyless;
+use verdicts::answer::with_alternate;
+use verdicts::verdict::Verdict;
+use windows::span::Span;
+use windows::span::span_of;
+
+// What the segments rest on beside the estimates.
+fn track_of(settings: Settings, span: Span, verdict: Verdict) -> Track
+    ensures { λ r. ⌜ r ≡ trackOf settings span verdict ⌝ }
+{
+    let key = verdict.key;
+    Track {
+        threshold: settings.segment_confidence_threshold,
+        minimum: widen(settings.minimum_segment_seconds),
+        duration: span.duration,
+        key,
+        confidence: verdict.confidence,
+    }
+}
+
+// The answer that the segments in the first rows give.
+fn name_keys(
+    threshold: f32,
+    verdict: Verdict,
+    counts: Counts,
+    starts: &[f64],
+    ends: &[f64],
+    keys: &[u8],
+    confidences: &[f32],
+) -> AnalyseResult
+    requires { ⌜ Room (lentSegments starts ends keys confidences) (counts .segments) ⌝ }
+    ensures { λ r. ⌜ r ≡ namedIn threshold verdict counts (segmentsIn (lentSegments (starts .entry) (ends .entry) (keys .entry) (confidences .entry)) (counts .segments)) ⌝ }
+{
+    let classified = verdict.key;
+    let segments = counts.segments;
+    let reported = reported_key(classified, segments, starts, ends, keys, confidences);
+    let other = alternate_key(
+        reported,
+        threshold,
+        segments,
+        starts,
+        ends,
+        keys,
+        confidences,
+    );
+    with_alternate(verdict, reported, counts, other)
+}
+
+// Estimates and segments go into their rows, and the answer tells of them.
+pub fn report_track(
+    settings: Settings,
+    samples: usize,
+    verdict: Verdict,
+    frames: usize,
+    centres: &[f64],
+    values: &[[f32; 12]],
+    middles: &mut [f64],
+    numbers: &mut [u8],
+    certainties: &mut [f32],
+    starts: &mut [f64],
+    ends: &mut [f64],
+    keys: &mut [u8],
+    confidences: &mut [f32],
+) -> AnalyseResult
+    requires { ⌜ Prepared (spanOf settings samples) (heard frames (now centres) (now values)) (lentEstimates middles numbers certainties) (lentSegments starts ends keys confidences) ⌝ }
+    ensures { λ r. ⌜ reported r (lentEstimates (middles .exit) (numbers .exit) (certainties .exit)) (lentSegments (starts .exit) (ends .exit) (keys .exit) (confidences .exit)) ≡ reportOf settings samples verdict (heard frames (now (centres .entry)) (now (values .entry))) (lentEstimates (middles .entry) (numbers .entry) (certainties .entry)) (lentSegments (starts .entry) (ends .entry) (keys .entry) (confidences .entry)) ⌝ }
+{
+    let span = span_of(settings, samples);
+    let track = track_of(settings, span, verdict);
+    match locate_segments(
+        span,
+        track,
+        frames,
+        centres,
+        values,
+        middles,
+        numbers,
+        certainties,
+        starts,
+        ends,
+        keys,
+        confidences,
+    ) {
+        Located::Halted(estimates) => keyless(10, 0, frames, estimates),
+        Located::Told(estimates, segments) => name_keys(
+            settings.alternate_coverage_threshold,
+            verdict,
+            Counts {
+                frames,
+                estimates,
+                segments,
+            },
+            starts,
+            ends,
+            keys,
+            confidences,
+        ),
+    }
+}

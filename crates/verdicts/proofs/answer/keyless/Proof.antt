@@ -1,0 +1,13 @@
+-- The answer is written out.
+use borrow.Author.Needs.{needs}
+use lib.Ieee.{ofBits}
+use Rattle.verdicts.specs.Answer.{keyless}
+use Rattle.verdicts.proofs.answer.keyless.Statement.{statement}
+use Rattle.verdicts.proofs.answer.keyless.Tie as tie
+
+returns : tie.Need-returns
+unfolding ofBits keyless
+returns c = search needs
+
+pub keyless-spec : {M : Type 1} → statement M
+keyless-spec = tie.close (tie.spec returns)

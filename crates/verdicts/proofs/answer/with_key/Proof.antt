@@ -1,0 +1,18 @@
+-- The answer is written out; a key number stays what it is in more bits.
+use borrow.Author.Needs.{needs}
+use Rattle.verdicts.specs.Answer.{withKey}
+use Rattle.verdicts.proofs.answer.with_key.Statement.{statement}
+use Rattle.verdicts.proofs.answer.with_key.Tie as tie
+
+key-number-requires : tie.Need-key-number-requires
+key-number-requires c κs = search needs
+
+cast-key : tie.Need-cast-key
+cast-key c = search needs
+
+returns : tie.Need-returns
+unfolding withKey
+returns c = cc
+
+pub with-key-spec : {M : Type 1} → statement M
+with-key-spec = tie.close (tie.spec key-number-requires cast-key returns)

@@ -1,0 +1,94 @@
+// What an analysis answers, as numbers.
+ghost use mathlib.Core.Path.{_≡_};
+ghost use Rattle.verdicts.specs.Answer.{keyless, withKey, withAlternate};
+use crate::verdict::Verdict;
+use alternates::alternate::Alternate;
+use keys::Key;
+use keys::numbers::key_number;
+
+// The refusal's number, or 0, and the frame position that 9 names; the keys by number, 24 for a missing one; how
+// many rows of each kind are written; the chroma of the whole track.
+#[repr(C)]
+pub struct AnalyseResult {
+    pub refusal: u32,
+    pub position: u64,
+    pub key: u32,
+    pub dsp_key: u32,
+    pub alternate: u32,
+    pub coverage: f32,
+    pub confidence: f32,
+    pub frames: u64,
+    pub estimates: u64,
+    pub segments: u64,
+    pub chroma: [f32; 12],
+}
+
+// How many rows of each kind are written.
+pub struct Counts {
+    pub frames: usize,
+    pub estimates: usize,
+    pub segments: usize,
+}
+
+// An answer without a key: a refusal, or the empty analysis.
+pub fn keyless(refusal: u32, position: usize, frames: usize, estimates: usize) -> AnalyseResult
+    ensures { λ r. ⌜ r ≡ keyless refusal position frames estimates ⌝ }
+{
+    AnalyseResult {
+        refusal,
+        position: position as u64,
+        key: 24,
+        dsp_key: 24,
+        alternate: 24,
+        coverage: 0.0,
+        confidence: 0.0,
+        frames: frames as u64,
+        estimates: estimates as u64,
+        segments: 0,
+        chroma: [0.0; 12],
+    }
+}
+
+// An answer with the reported key, and an alternate's number and coverage.
+fn with_key(
+    verdict: Verdict,
+    reported: Key,
+    counts: Counts,
+    alternate: u32,
+    coverage: f32,
+) -> AnalyseResult
+    ensures { λ r. ⌜ r ≡ withKey verdict reported counts alternate coverage ⌝ }
+{
+    let key = key_number(reported) as u32;
+    let chroma = verdict.chroma;
+    AnalyseResult {
+        refusal: 0,
+        position: 0,
+        key,
+        dsp_key: key,
+        alternate,
+        coverage,
+        confidence: verdict.confidence,
+        frames: counts.frames as u64,
+        estimates: counts.estimates as u64,
+        segments: counts.segments as u64,
+        chroma,
+    }
+}
+
+// The same, by the alternate that is named or not.
+pub fn with_alternate(
+    verdict: Verdict,
+    reported: Key,
+    counts: Counts,
+    other: Alternate,
+) -> AnalyseResult
+    ensures { λ r. ⌜ r ≡ withAlternate verdict reported counts other ⌝ }
+{
+    match other {
+        Alternate::Nobody => with_key(verdict, reported, counts, 24, 0.0),
+        Alternate::Named(key, coverage) => {
+            with_key(verdict, reported, counts, key as u32, coverage)
+        }
+    }
+}
