@@ -39,8 +39,8 @@ use Rattle.alternates.specs.declared.alternate.Alternate.{Alternate}
 use Rattle.alternates.specs.declared.alternate.Alternate.the-variants.{Nobody, Named}
 use Rattle.alternates.proofs.Named.{named-exactly}
 use Rattle.alternates.proofs.Tiled.{tiled-total-finite}
-use Rattle.analysis.specs.Lent.{Lent, withFrames, workZeroed, withSegments}
-use Rattle.analysis.specs.Room.{hasty, roomOf}
+use Rattle.rooms.specs.Lent.{Lent, withFrames, workZeroed, withSegments}
+use Rattle.rooms.specs.Room.{hasty, roomOf}
 use Rattle.verdicts.specs.Verdict.{faint, verdictOf}
 use Rattle.verdicts.specs.Answer.{counts, keyless, withKey}
 use Rattle.reports.specs.Report.{trackOf, namedIn, toldBy, reportOf}

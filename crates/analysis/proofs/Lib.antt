@@ -1,5 +1,4 @@
 -- What the proofs of an analysis share, and demand 3.
-mod Rooms
 mod Louds
 mod Positions
 mod Supplied

@@ -12,7 +12,7 @@ use Rattle.calls.specs.declared.Settings.{Settings}
 use Rattle.chroma.specs.Weighted.{weightedMedians}
 use Rattle.timeline.specs.Estimates.{EstimateRows}
 use Rattle.timeline.specs.Segments.{SegmentRows}
-use Rattle.analysis.specs.Lent.{Lent, lent, workZeroed}
+use Rattle.rooms.specs.Lent.{Lent, lent, workZeroed}
 use Rattle.verdicts.specs.Verdict.{faint, verdictOf}
 use Rattle.verdicts.specs.Answer.{keyless}
 use Rattle.reports.specs.Report.{reported, reportOf}

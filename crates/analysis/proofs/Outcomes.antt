@@ -10,8 +10,8 @@ use Rattle.checks.specs.declared.Checked.{Checked}
 use Rattle.checks.specs.declared.Checked.the-variants.{Refused, Empty, Go}
 use Rattle.timeline.specs.Estimates.{estimateRoom}
 use Rattle.timeline.specs.Segments.{segmentRoom}
-use Rattle.analysis.specs.Lent.{Lent}
-use Rattle.analysis.specs.Room.{hasty, roomFor, roomOf}
+use Rattle.rooms.specs.Lent.{Lent}
+use Rattle.rooms.specs.Room.{hasty, roomFor, roomOf}
 use Rattle.verdicts.specs.Answer.{keyless}
 use Rattle.analysis.specs.Analyse.{Outcome, outcome, positionsAnalysed, afterChecks, tableOf, analysed}
 use Rattle.verdicts.specs.declared.answer.AnalyseResult.{AnalyseResult}

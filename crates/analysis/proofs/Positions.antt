@@ -9,7 +9,7 @@ use Rattle.frames.specs.Run.{ran, runOf}
 use Rattle.frames.specs.declared.run.Filled.{Filled}
 use Rattle.frames.specs.declared.run.Filled.the-variants.{All, NotFinite}
 use Rattle.frames.proofs.Left.{run-left}
-use Rattle.analysis.specs.Lent.{Lent, withFrames}
+use Rattle.rooms.specs.Lent.{Lent, withFrames}
 use Rattle.verdicts.specs.Answer.{keyless}
 use Rattle.analysis.specs.Analyse.{Outcome, outcome, framesAnalysed, filledAnalysed, ranAnalysed, positionsAnalysed, Stocked, Supplied}
 use Rattle.verdicts.specs.declared.answer.AnalyseResult.{AnalyseResult}

@@ -18,8 +18,8 @@ use Rattle.timeline.proofs.Rooms.{room-within, estimates-within}
 use Rattle.windows.specs.Span.{spanOf, windowsOf, rowsAsked}
 use Rattle.windows.specs.Rising.{Timed}
 use Rattle.windows.proofs.Spans.{windows-asked, some-asked, span-timed}
-use Rattle.analysis.specs.Lent.{Lent}
-use Rattle.analysis.specs.Room.{hasty, roomFor, roomOf}
+use Rattle.rooms.specs.Lent.{Lent}
+use Rattle.rooms.specs.Room.{hasty, roomFor, roomOf}
 use Rattle.analysis.specs.Demand.{Typed}
 use Rattle.analysis.specs.Analyse.{tableOf, Supplied}
 

@@ -17,8 +17,8 @@ use Rattle.frames.specs.declared.run.Filled.the-variants.{All, NotFinite}
 use Rattle.windows.specs.Span.{spanOf}
 use Rattle.windows.specs.Gather.{Heard, heard}
 use Rattle.segments.specs.Track.{Prepared}
-use Rattle.analysis.specs.Lent.{Lent, withFrames, workZeroed, withSegments}
-use Rattle.analysis.specs.Room.{hasty, roomOf}
+use Rattle.rooms.specs.Lent.{Lent, withFrames, workZeroed, withSegments}
+use Rattle.rooms.specs.Room.{hasty, roomOf}
 use Rattle.verdicts.specs.Verdict.{faint, verdictOf}
 use Rattle.verdicts.specs.Answer.{keyless}
 use Rattle.reports.specs.Report.{Reported, reportOf}

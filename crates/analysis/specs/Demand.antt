@@ -12,7 +12,7 @@ use Rattle.timeline.specs.Tiling.{Tiles, NoneShort}
 use Rattle.timeline.specs.declared.segment.Segment.{Segment}
 use Rattle.windows.specs.Span.{spanOf}
 use Rattle.alternates.specs.Named.{Reaches, Rightly}
-use Rattle.analysis.specs.Lent.{Lent}
+use Rattle.rooms.specs.Lent.{Lent}
 use Rattle.analysis.specs.Analyse.{Outcome, analysed}
 use Rattle.verdicts.specs.declared.answer.AnalyseResult.{AnalyseResult}
 

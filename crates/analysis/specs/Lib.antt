@@ -1,4 +1,2 @@
-pub mod Lent
-pub mod Room
 pub mod Analyse
 pub mod Demand

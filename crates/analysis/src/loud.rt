@@ -1,6 +1,6 @@
 // From the loud frames in their rows to the answer.
 ghost use mathlib.Core.Path.{_≡_};
-ghost use Rattle.analysis.specs.Lent.{lentAll};
+ghost use Rattle.rooms.specs.Lent.{lentAll};
 ghost use Rattle.analysis.specs.Analyse.{outcome, framesAnalysed, Stocked};
 use calls::Settings;
 use chroma::weighted::weighted_medians;

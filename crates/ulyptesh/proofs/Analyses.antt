@@ -1,7 +1,7 @@
 -- The second clause follows from the first: demand 3 holds of the definition.
 use mathlib.Core.Path.{_≡_, sym, subst}
 use Rattle.calls.specs.Call.{Call}
-use Rattle.analysis.specs.Lent.{Lent}
+use Rattle.rooms.specs.Lent.{Lent}
 use Rattle.analysis.specs.Analyse.{Outcome, analysed}
 use Rattle.analysis.specs.Demand.{DemandThree, Typed}
 use Rattle.analysis.proofs.Demand.{analysis-keeps}

@@ -1,7 +1,7 @@
 -- The promise of `ulyptesh_analyse`, in two clauses. Definitions and the statement.
 use mathlib.Core.Path.{_≡_}
 use Rattle.calls.specs.Call.{Call}
-use Rattle.analysis.specs.Lent.{Lent}
+use Rattle.rooms.specs.Lent.{Lent}
 use Rattle.analysis.specs.Analyse.{Outcome, analysed}
 use Rattle.analysis.specs.Demand.{DemandThree}
 

@@ -1,6 +1,6 @@
 // The call "analyse".
 ghost use Rattle.calls.specs.Call.{given};
-ghost use Rattle.analysis.specs.Lent.{lentAll};
+ghost use Rattle.rooms.specs.Lent.{lentAll};
 ghost use Rattle.analysis.specs.Analyse.{outcome};
 ghost use Rattle.ulyptesh.specs.Analysis.{Promised};
 use analysis::analyse::analyse;

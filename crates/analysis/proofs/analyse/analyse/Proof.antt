@@ -4,7 +4,7 @@ use mathlib.Core.Path.{_≡_}
 use Prim.Native.Nat.{_<_}
 use Rattle.calls.specs.Call.{Call, given}
 use Rattle.checks.specs.declared.Checked.{Checked}
-use Rattle.analysis.specs.Lent.{Lent, lentAll}
+use Rattle.rooms.specs.Lent.{Lent, lentAll}
 use Rattle.analysis.specs.Analyse.{tableOf}
 use Rattle.analysis.specs.Demand.{Typed}
 use Rattle.analysis.proofs.Supplied.{supplied}

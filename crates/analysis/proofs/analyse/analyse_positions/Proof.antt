@@ -1,7 +1,7 @@
 -- A law for each answer of the run.
 use borrow.Author.Needs.{needs}
 use Rattle.calls.specs.Call.{Call, given}
-use Rattle.analysis.specs.Lent.{Lent, lentAll}
+use Rattle.rooms.specs.Lent.{Lent, lentAll}
 use Rattle.analysis.proofs.Positions.{stocked-so, not-finite-so, all-so}
 use Rattle.analysis.proofs.analyse.analyse_positions.Statement.{statement}
 use Rattle.analysis.proofs.analyse.analyse_positions.Tie as tie

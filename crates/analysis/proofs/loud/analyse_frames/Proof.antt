@@ -3,7 +3,7 @@ use borrow.Author.Needs.{needs}
 use Rattle.calls.specs.Rows.{rows}
 use Rattle.timeline.specs.Estimates.{estimateRows}
 use Rattle.timeline.specs.Segments.{segmentRows}
-use Rattle.analysis.specs.Lent.{lent}
+use Rattle.rooms.specs.Lent.{lent}
 use Rattle.analysis.proofs.Louds.{none-loud, faint-so, heard-so}
 use Rattle.analysis.proofs.loud.analyse_frames.Statement.{statement}
 use Rattle.analysis.proofs.loud.analyse_frames.Tie as tie

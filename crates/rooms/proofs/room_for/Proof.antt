@@ -1,8 +1,8 @@
 -- Either side of the comparison.
 use borrow.Author.Needs.{needs}
-use Rattle.analysis.proofs.Rooms.{enough-room, no-room}
-use Rattle.analysis.proofs.room.room_for.Statement.{statement}
-use Rattle.analysis.proofs.room.room_for.Tie as tie
+use Rattle.rooms.proofs.Rooms.{enough-room, no-room}
+use Rattle.rooms.proofs.room_for.Statement.{statement}
+use Rattle.rooms.proofs.room_for.Tie as tie
 
 span-of-requires : tie.Need-span-of-requires
 span-of-requires c κs = search needs

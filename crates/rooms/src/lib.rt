@@ -1,6 +1,6 @@
-// The room that a call has, for row 8 of the check table, and its haste, for row 5.
+// What an analysis is lent, and whether it suffices: its room, for row 8 of the check table, and its haste, for row 5.
 ghost use mathlib.Core.Path.{_≡_};
-ghost use Rattle.analysis.specs.Room.{hasty, roomFor};
+ghost use Rattle.rooms.specs.Room.{hasty, roomFor};
 use calls::Settings;
 use numbers::counts::fewer;
 use windows::span::rows_asked;
