@@ -69,6 +69,16 @@ pub mod expose {
     ) -> Option<(Vec<ChromaFrame>, Vec<f32>)> {
         super::frame_chroma_sequence(s, rate, c)
     }
+    /// What `analyze` makes of these loud frames and their energies; the samples are only counted.
+    pub fn analysis_of_frames(
+        s: &[f32],
+        rate: u32,
+        c: KeyConfig,
+        frames: Vec<ChromaFrame>,
+        energies: Vec<f32>,
+    ) -> KeyAnalysis {
+        super::analysis_of_frames(s, rate, c, frames, energies)
+    }
     pub fn hanning_window(size: usize) -> Vec<f32> {
         super::hanning_window(size)
     }
