@@ -30,6 +30,30 @@ pub struct SheetHead {
     pub frame_size: usize,
 }
 
+impl Settings {
+    /// The Rust's own settings, for a track of this rate.
+    pub fn for_rate(rate: u32) -> Self {
+        Self {
+            rate,
+            frame_size: 4_096,
+            hop_size: 2_048,
+            minimum_midi_note: 36,
+            maximum_midi_note: 95,
+            local_window_seconds: 12.0,
+            local_hop_seconds: 6.0,
+            alternate_coverage_threshold: 0.25,
+            segment_confidence_threshold: 0.35,
+            minimum_segment_seconds: 12.0,
+        }
+    }
+
+    /// What a sheet for this call states.
+    pub fn head(&self) -> SheetHead {
+        let Self { rate, minimum_midi_note, maximum_midi_note, frame_size, .. } = *self;
+        SheetHead { rate, minimum_midi_note, maximum_midi_note, frame_size }
+    }
+}
+
 /// A table sheet. Row k of either kind is for the lowest note plus k.
 #[derive(Debug, Clone, PartialEq)]
 pub struct Sheet {
