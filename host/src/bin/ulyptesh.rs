@@ -1,12 +1,14 @@
 //! The library from a terminal.
+#[path = "../demo/mod.rs"]
+mod analysed_track;
+
 use std::io::{self, Write};
 use std::process::ExitCode;
 use ulyptesh_host::card::{Analysis, NO_KEY, card};
 use ulyptesh_host::key_name::key_name;
 use ulyptesh_host::scores::key;
 
-const USAGE: &str =
-    "usage: ulyptesh demo               the 24 keys by number, the key of a triad, and a key card
+const USAGE: &str = "usage: ulyptesh demo               the 24 keys, the key of a triad, a key card, a track
        ulyptesh key-name NUMBER    the name of one key
        ulyptesh key NUMBER x12     the key of a chroma: a number for each pitch class, from C upward";
 
@@ -47,7 +49,8 @@ fn say(line: &str) -> Result<(), Failure> {
 fn demo() -> Result<(), Failure> {
     (0..24).try_for_each(|number| say(&format!("{number:2}  {}", key_name(number).map_err(refused)?)))?;
     say(&format!("a chroma of A, C and E is {}", key_of(&TRIAD)?))?;
-    say(&format!("the card of three minutes in A minor is {}", card_of(&THREE_MINUTES)?))
+    say(&format!("the card of three minutes in A minor is {}", card_of(&THREE_MINUTES)?))?;
+    analysed_track::lines().map_err(refused)?.iter().try_for_each(|line| say(line))
 }
 
 /// The bytes of a card, in hexadecimal.
