@@ -168,7 +168,7 @@ fn changed(changes: &'static [Change]) -> impl Iterator<Item = Judged> {
 }
 
 /// The request's rules, one after the other.
-fn their_verdict(sheet: &Sheet) -> bool {
+pub fn follows_the_rules(sheet: &Sheet) -> bool {
     let SheetHead { rate, minimum_midi_note, maximum_midi_note, frame_size } = sheet.head;
     let notes = (minimum_midi_note..=maximum_midi_note).count();
     let lengths = &sheet.constant_q_lengths;
@@ -254,24 +254,16 @@ fn neighbours(head: SheetHead) -> [SheetHead; 4] {
     ]
 }
 
+/// A call that the head's sheet is made for.
+fn settings_for(head: SheetHead) -> Settings {
+    let SheetHead { rate, minimum_midi_note, maximum_midi_note, frame_size } = head;
+    Settings { frame_size, minimum_midi_note, maximum_midi_note, ..Settings::for_rate(rate) }
+}
+
 /// Every call beside every sheet, and beside those that differ from one in one number.
 fn asked() -> impl Iterator<Item = Asked> {
-    let settings = |head: SheetHead| {
-        SettingsInput(Settings {
-            rate: head.rate,
-            frame_size: head.frame_size,
-            hop_size: 2_048,
-            minimum_midi_note: head.minimum_midi_note,
-            maximum_midi_note: head.maximum_midi_note,
-            local_window_seconds: 12.0,
-            local_hop_seconds: 6.0,
-            alternate_coverage_threshold: 0.25,
-            segment_confidence_threshold: 0.35,
-            minimum_segment_seconds: 12.0,
-        })
-    };
     let every = || heads().chain(heads().flat_map(neighbours));
-    heads().flat_map(move |call| every().map(move |sheet| (settings(call), sheet)))
+    heads().flat_map(move |call| every().map(move |sheet| (SettingsInput(settings_for(call)), sheet)))
 }
 
 fn their_match((SettingsInput(settings), head): Asked) -> bool {
@@ -282,12 +274,15 @@ fn their_match((SettingsInput(settings), head): Asked) -> bool {
 pub fn compare(groups: &mut Groups) {
     let ours = |judged: Judged| judged.sheet.well_formed();
     let oracles =
-        heads().map(|head| Judged { what: "the oracle's".to_string(), sheet: Tables::new(head).sheet });
-    groups.group("sheets of the oracle", oracles, ours, |_| true);
+        || heads().map(|head| Judged { what: "the oracle's".to_string(), sheet: Tables::new(head).sheet });
+    let built =
+        |judged: Judged| Judged { sheet: Sheet::for_call(&settings_for(judged.sheet.head)), ..judged };
+    groups.group("sheets built by the host", oracles(), built, |judged| judged);
+    groups.group("sheets of the oracle", oracles(), ours, |_| true);
     groups.group("sheets with one rule broken", changed(&BROKEN), ours, |_| false);
     groups.group("sheets at a rule's border", changed(&AT_BORDER), ours, |_| true);
     groups.group("sheets, random changes", random_sheets(groups.seed), ours, |judged| {
-        their_verdict(&judged.sheet)
+        follows_the_rules(&judged.sheet)
     });
     let our_match = |(SettingsInput(settings), head): Asked| probe_sheet_matches(settings, head);
     groups.group("sheets for calls", asked(), our_match, their_match);

@@ -1,5 +1,6 @@
 //! Calls for frames, and the request's check table over them, written out once more.
-use std::rc::Rc;
+use super::filters_sheets::follows_the_rules;
+use std::sync::Arc;
 use ulyptesh_host::sheet::{Settings, Sheet};
 
 /// What a call is given, and the lengths of the rows that it is lent.
@@ -7,7 +8,7 @@ use ulyptesh_host::sheet::{Settings, Sheet};
 pub struct Asked {
     pub what: &'static str,
     pub settings: Settings,
-    pub sheet: Rc<Sheet>,
+    pub sheet: Arc<Sheet>,
     pub samples: Vec<f32>,
     pub room: [usize; 3],
 }
@@ -53,7 +54,7 @@ impl Asked {
             (0, &|| self.empty()),
             (4, &|| count > 14_400 * s.rate as usize),
             (6, &|| self.other_sheet()),
-            (7, &|| !self.sheet.well_formed()),
+            (7, &|| !follows_the_rules(&self.sheet)),
             (8, &|| self.room.iter().any(|&places| places < positions())),
         ];
         tests.into_iter().find(|(_, applies)| applies()).map(|(number, _)| number)
@@ -100,25 +101,25 @@ pub const BREACHES: [Breach; 30] = [
     },
     Breach {
         what: "sheet of another rate",
-        breaks: |asked| Rc::make_mut(&mut asked.sheet).head.rate = 44_100,
+        breaks: |asked| Arc::make_mut(&mut asked.sheet).head.rate = 44_100,
     },
     Breach {
         what: "sheet of another lowest note",
-        breaks: |asked| Rc::make_mut(&mut asked.sheet).head.minimum_midi_note = 59,
+        breaks: |asked| Arc::make_mut(&mut asked.sheet).head.minimum_midi_note = 59,
     },
     Breach {
         what: "sheet of another highest note",
-        breaks: |asked| Rc::make_mut(&mut asked.sheet).head.maximum_midi_note = 73,
+        breaks: |asked| Arc::make_mut(&mut asked.sheet).head.maximum_midi_note = 73,
     },
     Breach {
         what: "sheet of another frame size",
-        breaks: |asked| Rc::make_mut(&mut asked.sheet).head.frame_size = 63,
+        breaks: |asked| Arc::make_mut(&mut asked.sheet).head.frame_size = 63,
     },
-    Breach { what: "window value above 1", breaks: |asked| Rc::make_mut(&mut asked.sheet).window[5] = 1.5 },
-    Breach { what: "weight of 0", breaks: |asked| Rc::make_mut(&mut asked.sheet).goertzel_weights[0] = 0.0 },
+    Breach { what: "window value above 1", breaks: |asked| Arc::make_mut(&mut asked.sheet).window[5] = 1.5 },
+    Breach { what: "weight of 0", breaks: |asked| Arc::make_mut(&mut asked.sheet).goertzel_weights[0] = 0.0 },
     Breach {
         what: "joined windows one longer",
-        breaks: |asked| Rc::make_mut(&mut asked.sheet).constant_q_windows.push(0.5),
+        breaks: |asked| Arc::make_mut(&mut asked.sheet).constant_q_windows.push(0.5),
     },
     Breach { what: "too few centres", breaks: |asked| asked.room[0] = 6 },
     Breach { what: "too few values", breaks: |asked| asked.room[1] = 0 },

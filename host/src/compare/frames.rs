@@ -3,12 +3,13 @@ use super::filters_tables::Tables;
 use super::filters_tracks::KINDS;
 use super::frame_calls::{Asked, BREACHES};
 use super::groups::{Compared, Groups};
-use super::key_lime::KeyConfig;
+use super::key_lime::ChromaFrame;
 use super::key_lime::expose::frame_chroma_sequence;
 use super::random::patterns;
-use std::rc::Rc;
+use super::segment_calls::config;
+use std::sync::Arc;
 use ulyptesh_host::frames::{FrameRows, FramesResult, frames};
-use ulyptesh_host::sheet::{Settings, SheetHead};
+use ulyptesh_host::sheet::Settings;
 
 /// Streams of the seed from here on are the frames'.
 const STREAM: u64 = 50_000;
@@ -81,18 +82,6 @@ fn ours(asked: Asked) -> Left {
     Left { answer, rows }
 }
 
-fn config(settings: &Settings) -> KeyConfig {
-    KeyConfig {
-        frame_size: settings.frame_size,
-        hop_size: settings.hop_size,
-        minimum_midi_note: settings.minimum_midi_note,
-        maximum_midi_note: settings.maximum_midi_note,
-        local_window_seconds: settings.local_window_seconds,
-        local_hop_seconds: settings.local_hop_seconds,
-        ..KeyConfig::default()
-    }
-}
-
 /// The positions whose energy is above 1e-8.
 fn loud_positions(asked: &Asked) -> Vec<usize> {
     let Settings { frame_size, hop_size, .. } = asked.settings;
@@ -103,24 +92,43 @@ fn loud_positions(asked: &Asked) -> Vec<usize> {
     asked.samples.windows(frame_size).step_by(hop_size).enumerate().filter_map(loud).collect()
 }
 
+/// The oracle's loud frames with their energies, up to the first that is not finite; that one's position.
+pub struct Heard {
+    pub frames: Vec<ChromaFrame>,
+    pub energies: Vec<f32>,
+    pub broken: Option<usize>,
+}
+
+pub fn heard(asked: &Asked) -> Heard {
+    let found = frame_chroma_sequence(&asked.samples, asked.settings.rate, config(&asked.settings));
+    let (mut frames, mut energies) = found.unwrap_or_default();
+    let whole = |at: &usize| energies[*at].is_finite() && frames[*at].values.iter().all(|x| x.is_finite());
+    let good = (0..frames.len()).take_while(whole).count();
+    let broken = (good < frames.len()).then(|| loud_positions(asked)[good]);
+    frames.truncate(good);
+    energies.truncate(good);
+    Heard { frames, energies, broken }
+}
+
+/// Writes the frames from the front of the rows.
+pub fn put_frames(heard: &Heard, rows: &mut FrameRows) {
+    for (at, (frame, energy)) in heard.frames.iter().zip(&heard.energies).enumerate() {
+        rows.centres[at] = frame.center_seconds;
+        rows.values[at] = frame.values;
+        rows.energies[at] = *energy;
+    }
+}
+
 /// The request's table, then the oracle's frames up to the first that is not finite.
 fn theirs(asked: Asked) -> Left {
     let mut rows = untouched(asked.room);
     if let Some(refusal) = asked.refusal() {
         return Left { answer: FramesResult { refusal, position: 0, count: 0 }, rows };
     }
-    let found = frame_chroma_sequence(&asked.samples, asked.settings.rate, config(&asked.settings));
-    let (found, energies) = found.unwrap_or_default();
-    let whole = |at: &usize| energies[*at].is_finite() && found[*at].values.iter().all(|x| x.is_finite());
-    let good = (0..found.len()).take_while(whole).count();
-    for at in 0..good {
-        rows.centres[at] = found[at].center_seconds;
-        rows.values[at] = found[at].values;
-        rows.energies[at] = energies[at];
-    }
-    let (refusal, position) =
-        if good < found.len() { (9, loud_positions(&asked)[good] as u64) } else { (0, 0) };
-    Left { answer: FramesResult { refusal, position, count: good as u64 }, rows }
+    let heard = heard(&asked);
+    put_frames(&heard, &mut rows);
+    let (refusal, position) = heard.broken.map_or((0, 0), |position| (9, position as u64));
+    Left { answer: FramesResult { refusal, position, count: heard.frames.len() as u64 }, rows }
 }
 
 fn settings_of(shape: Shape) -> Settings {
@@ -137,11 +145,6 @@ fn settings_of(shape: Shape) -> Settings {
         segment_confidence_threshold: 0.35,
         minimum_segment_seconds: 12.0,
     }
-}
-
-fn tables(settings: &Settings) -> Tables {
-    let Settings { rate, minimum_midi_note, maximum_midi_note, frame_size, .. } = *settings;
-    Tables::new(SheetHead { rate, minimum_midi_note, maximum_midi_note, frame_size })
 }
 
 /// One track in three has but one loud stretch, one in eight a sample that is not finite or too large.
@@ -166,7 +169,7 @@ fn samples(seed: u64, stream: u64, nth: usize, length: usize) -> Vec<f32> {
 
 fn tracks(seed: u64, nth_shape: usize, shape: Shape) -> impl Iterator<Item = Asked> {
     let settings = settings_of(shape);
-    let sheet = Rc::new(tables(&settings).sheet);
+    let sheet = Arc::new(Tables::new(settings.head()).sheet);
     let (_, _, size, hop, longer) = shape;
     (0..TRACKS).map(move |nth| {
         let stream = STREAM + (nth_shape * TRACKS + nth) as u64;
@@ -175,14 +178,14 @@ fn tracks(seed: u64, nth_shape: usize, shape: Shape) -> impl Iterator<Item = Ask
         let positions = length.saturating_sub(size) / hop + 1;
         let room = [positions + (draw % 3) as usize, positions + (draw >> 2) as usize % 3, positions];
         let samples = samples(seed, stream, nth, length);
-        Asked { what: KINDS[nth % KINDS.len()].name, settings, sheet: Rc::clone(&sheet), samples, room }
+        Asked { what: KINDS[nth % KINDS.len()].name, settings, sheet: Arc::clone(&sheet), samples, room }
     })
 }
 
 /// A call that passes: 256 samples of a tone at 8,000 Hz, seven frames.
-fn whole() -> Asked {
+pub fn whole() -> Asked {
     let settings = settings_of((8_000, (60, 72), 64, 32, 0));
-    let sheet = Rc::new(tables(&settings).sheet);
+    let sheet = Arc::new(Tables::new(settings.head()).sheet);
     let samples = (0..256).map(|at| (at as f32 * 0.3).sin()).collect();
     let whole = Asked { what: "whole", settings, sheet, samples, room: [7, 8, 9] };
     assert_eq!(whole.refusal(), None);

@@ -1,5 +1,9 @@
 //! Groups of inputs, each given to both sides, and what is said about them.
+use std::iter;
 use std::process::ExitCode;
+use std::sync::Mutex;
+use std::sync::atomic::{AtomicUsize, Ordering};
+use std::thread;
 use std::time::Instant;
 
 /// So many differences of one group are printed.
@@ -130,6 +134,36 @@ impl Groups {
                 self.print_difference(differ, name, &input, &found, &wanted);
             }
         });
+        println!("{name}: {count} inputs, {differ} differ, {:.2} s", begun.elapsed().as_secs_f64());
+        self.record(count > 0 && differ == 0);
+    }
+
+    /// One test, as above, of inputs made by their number; the machine's processors share them.
+    pub fn shared_group<I: Compared, A: Compared>(
+        &mut self,
+        name: &str,
+        count: usize,
+        input: impl Fn(usize) -> I + Sync,
+        ours: impl Fn(&I) -> A + Sync,
+        theirs: impl Fn(&I) -> A + Sync,
+    ) {
+        let begun = Instant::now();
+        let (next, differ) = (AtomicUsize::new(0), Mutex::new(0));
+        let work = || {
+            let numbers = iter::repeat_with(|| next.fetch_add(1, Ordering::Relaxed));
+            for nth in numbers.take_while(|&nth| nth < count) {
+                let input = input(nth);
+                let (found, wanted) = (ours(&input), theirs(&input));
+                if !found.same(&wanted) {
+                    let mut differ = differ.lock().expect("no thread failed");
+                    *differ += 1;
+                    self.print_difference(*differ, name, &input, &found, &wanted);
+                }
+            }
+        };
+        let threads = thread::available_parallelism().map_or(1, usize::from);
+        thread::scope(|scope| (0..threads).for_each(|_| drop(scope.spawn(work))));
+        let differ = differ.into_inner().expect("no thread failed");
         println!("{name}: {count} inputs, {differ} differ, {:.2} s", begun.elapsed().as_secs_f64());
         self.record(count > 0 && differ == 0);
     }

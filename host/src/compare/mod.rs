@@ -3,6 +3,8 @@ extern crate key_lime;
 
 mod alternates;
 mod analyses;
+mod analysis_calls;
+mod analysis_sides;
 mod borderline;
 mod cards;
 mod chroma_edges;
@@ -31,7 +33,11 @@ mod segment_calls;
 mod segment_lists;
 mod segment_tracks;
 mod segments;
+mod short_tracks;
 mod shortening;
+mod track_edges;
+mod track_makers;
+mod whole_tracks;
 
 use groups::Groups;
 use std::process::ExitCode;
@@ -80,6 +86,9 @@ fn compare(given: &Options) -> ExitCode {
     shortening::compare(&mut groups);
     alternates::compare(&mut groups);
     segments::compare(&mut groups);
+    track_edges::compare(&mut groups);
+    short_tracks::compare(&mut groups);
+    whole_tracks::compare(&mut groups);
     groups.close()
 }
 

@@ -43,8 +43,13 @@ pub fn frames(track: &Track) -> Vec<ChromaFrame> {
 
 pub fn config(settings: &Settings) -> KeyConfig {
     KeyConfig {
+        frame_size: settings.frame_size,
+        hop_size: settings.hop_size,
+        minimum_midi_note: settings.minimum_midi_note,
+        maximum_midi_note: settings.maximum_midi_note,
         local_window_seconds: settings.local_window_seconds,
         local_hop_seconds: settings.local_hop_seconds,
+        alternate_coverage_threshold: settings.alternate_coverage_threshold,
         segment_confidence_threshold: settings.segment_confidence_threshold,
         minimum_segment_seconds: settings.minimum_segment_seconds,
         ..KeyConfig::default()

@@ -50,7 +50,7 @@ fn ours(asked: Asked) -> Left {
 }
 
 /// The oracle's estimates; where the hop is not above 0 those of the first window, since its loop ends at a NaN.
-fn their_estimates(track: &Track) -> Vec<Estimate> {
+pub fn their_estimates(track: &Track) -> Vec<Estimate> {
     if is_brief(track) {
         return vec![];
     }
@@ -72,7 +72,7 @@ fn their_segments(track: &Track) -> Vec<KeySegment> {
 }
 
 /// How many segments there are before any is joined.
-fn their_groups(track: &Track, found: &[Estimate]) -> usize {
+pub fn their_groups(track: &Track, found: &[Estimate]) -> usize {
     let threshold = track.settings.segment_confidence_threshold;
     let Track { key, confidence, .. } = *track;
     before_joining(Cutting { threshold, minimum: 0.0, duration: duration(track), key, confidence }, found)

@@ -1,0 +1,195 @@
+//! Whole analyses at the edges: the longest track, the least hop, the least frame, a sheet for another rate, no
+//! loud frame, faint medians, each check alone and with each later one.
+use super::analysis_calls::Asked;
+use super::analysis_sides::{ours, their_analysis, theirs};
+use super::dice::Dice;
+use super::filters_tables::Tables;
+use super::frame_calls::BREACHES;
+use super::frames::whole;
+use super::groups::Groups;
+use super::track_makers::{KINDS, Maker, kind};
+use std::f32::consts::PI;
+use std::sync::Arc;
+use ulyptesh_host::sheet::{Settings, Sheet};
+
+/// Streams of the seed from here on are the edges'.
+const STREAM: u64 = 69_000;
+
+/// So many tracks of one segment whose key is not the classified one.
+const LONE_SEGMENTS: usize = 60;
+
+/// Something that is done to a call.
+type Breaks = Box<dyn Fn(&mut Asked)>;
+
+fn sheet_of(settings: &Settings) -> Arc<Sheet> {
+    Arc::new(Tables::new(settings.head()).sheet)
+}
+
+fn asked(what: &'static str, settings: Settings, samples: Vec<f32>) -> Asked {
+    Asked::new(what, settings, &sheet_of(&settings), samples)
+}
+
+/// The Rust's own settings but for rate, notes, frame size and hop.
+fn settings(rate: u32, notes: (u8, u8), frame_size: usize, hop_size: usize) -> Settings {
+    let (minimum_midi_note, maximum_midi_note) = notes;
+    Settings { frame_size, hop_size, minimum_midi_note, maximum_midi_note, ..Settings::for_rate(rate) }
+}
+
+fn tone(length: usize, step: f32) -> Vec<f32> {
+    (0..length).map(|place| (2.0 * PI * step * place as f32).sin()).collect()
+}
+
+/// 14,400 s, a sample less and a sample more, at the most windows and at few; the key changes now and then.
+fn longest(seed: u64) -> Vec<Asked> {
+    let settings = settings(64, (10, 21), 32, 5_000);
+    let mut maker = Maker { dice: Dice::new(seed, STREAM + 1), rate: settings.rate };
+    let samples = (kind("key change").make)(&mut maker, 14_400 * 64 + 1);
+    let lengths = [1, 0, 2].map(|less| samples.len() - less);
+    let tracks = [0.5, 6.0].into_iter().flat_map(|hop| lengths.map(|length| (hop, length)));
+    tracks
+        .map(|(local_hop_seconds, length)| {
+            let settings = Settings {
+                local_hop_seconds,
+                segment_confidence_threshold: 0.0,
+                minimum_segment_seconds: 100.0,
+                ..settings
+            };
+            asked("about 14,400 s", settings, samples[..length].to_vec())
+        })
+        .collect()
+}
+
+/// A local hop of half a second, beside it, and of the smallest f32.
+fn least_hops() -> Vec<Asked> {
+    let settings = settings(2_000, (48, 72), 128, 100);
+    let hops = [0.5, 0.5f32.next_up(), 0.5f32.next_down(), 0.25, f32::MIN_POSITIVE, 1e-45];
+    hops.map(|local_hop_seconds| {
+        let settings = Settings { local_hop_seconds, local_window_seconds: 1.0, ..settings };
+        asked("about the least local hop", settings, tone(10_000, 0.1))
+    })
+    .into()
+}
+
+/// As many samples as the least frame has, one less, one more, none.
+fn least_frames() -> Vec<Asked> {
+    let settings = settings(8_000, (60, 72), 32, 16);
+    [0, 1, 31, 32, 33].map(|length| asked("about the least frame", settings, tone(length, 0.06))).into()
+}
+
+/// Tracks of one rate with the sheet of another, with the Rust's own settings.
+fn other_rates() -> Vec<Asked> {
+    let swap = |(rate, sheet_rate)| {
+        let sheet = sheet_of(&Settings::for_rate(sheet_rate));
+        Asked::new("sheet for another rate", Settings::for_rate(rate), &sheet, tone(50_000, 0.01))
+    };
+    [(48_000, 44_100), (44_100, 48_000), (44_100, 44_100), (48_000, 48_000)].map(swap).into()
+}
+
+/// Silence of both signs, and a tone so soft that no frame is loud or just some are.
+fn soft() -> Vec<Asked> {
+    let settings = settings(8_000, (60, 72), 64, 50);
+    let scales = [0.0, -0.0, 1e-30, 1e-5, 1.0e-4, 1.41e-4, 1.42e-4, 1.5e-4];
+    let scaled = |scale: f32| tone(1_000, 0.0601).into_iter().map(|x| x.abs() * scale).collect();
+    scales.map(|scale| asked("soft", settings, scaled(scale))).into()
+}
+
+/// Loud frames whose medians are faint: no row sounds, or each of a few notes in too few frames.
+fn faint() -> Vec<Asked> {
+    let no_rows = asked("no rows", settings(16_000, (250, 255), 40, 20), tone(400, 0.1));
+    let click = |loud: usize| {
+        let mut samples = vec![0.0; 6_400];
+        samples[64 * 50] = 1.0;
+        samples.iter_mut().step_by(64).take(loud).for_each(|x| *x = 0.01);
+        asked("clicks at the frames' ends", settings(8_000, (69, 69), 64, 64), samples)
+    };
+    [no_rows].into_iter().chain([0, 1, 2, 3, 30].map(click)).collect()
+}
+
+/// The list at this place has a row too few, none, or one more.
+fn other_room(place: usize) -> [Breaks; 3] {
+    let change = move |how: fn(usize) -> usize| -> Breaks {
+        Box::new(move |asked| asked.lent_mut().skip(place).take(1).for_each(|lent| *lent = how(*lent)))
+    };
+    [change(|lent| lent - 1), change(|_| 0), change(|lent| lent + 1)]
+}
+
+/// A call with several windows, with each list a row shorter, empty, and a row longer.
+fn rooms() -> Vec<Asked> {
+    let settings = Settings {
+        local_window_seconds: 1.0,
+        local_hop_seconds: 0.5,
+        minimum_segment_seconds: 0.0,
+        ..settings(2_000, (48, 72), 128, 200)
+    };
+    let whole = asked("room", settings, tone(10_000, 0.1));
+    assert_eq!((whole.refusal(), whole.rows[0]), (None, 9));
+    let changed = |breaks: Breaks| {
+        let mut asked = whole.clone();
+        breaks(&mut asked);
+        asked
+    };
+    (0..11).flat_map(other_room).map(changed).chain([whole.clone()]).collect()
+}
+
+/// Each check alone, and with each later one, on a call that would pass.
+fn refused() -> Vec<Asked> {
+    let call = whole();
+    let whole = Asked { work: 7, rows: [1, 2, 1, 1, 3, 1, 1], call };
+    assert_eq!(whole.refusal(), None);
+    let of_frames =
+        BREACHES.iter().map(|breach| -> Breaks { Box::new(|asked| (breach.breaks)(&mut asked.call)) });
+    let hop: Breaks = Box::new(|asked| asked.call.settings.local_hop_seconds = 0.5f32.next_down());
+    let work: Breaks = Box::new(|asked| asked.work = 6);
+    let rows = (0..7).map(|list| -> Breaks { Box::new(move |asked| asked.rows[list] = 0) });
+    let breaches: Vec<Breaks> = of_frames.chain([hop, work]).chain(rows).collect();
+    let pairs = (0..breaches.len()).flat_map(|one| (one..breaches.len()).map(move |other| (one, other)));
+    let broken = pairs.map(|(one, other)| {
+        let mut asked = whole.clone();
+        breaches[other](&mut asked);
+        breaches[one](&mut asked);
+        asked
+    });
+    broken.chain([whole.clone()]).collect()
+}
+
+/// Tracks that end in one segment, whose key is not the classified one.
+fn lone_segments(seed: u64) -> Vec<Asked> {
+    let settings = Settings {
+        local_window_seconds: 1.0,
+        local_hop_seconds: 0.5,
+        segment_confidence_threshold: 0.0,
+        minimum_segment_seconds: 1e9,
+        ..settings(4_000, (55, 83), 256, 400)
+    };
+    let sheet = sheet_of(&settings);
+    let mut maker = Maker { dice: Dice::new(seed, STREAM), rate: settings.rate };
+    let tracks = std::iter::repeat_with(|| {
+        let kind = &KINDS[maker.dice.below(KINDS.len())];
+        let length = 8_000 + maker.dice.below(16_000);
+        Asked::new(kind.name, settings, &sheet, (kind.make)(&mut maker, length))
+    });
+    let differs = |asked: &Asked| {
+        let told = their_analysis(asked);
+        told.is_some_and(|told| told.segments.len() == 1 && told.key != Some(told.segments[0].key))
+    };
+    tracks.filter(differs).take(LONE_SEGMENTS).collect()
+}
+
+pub fn compare(groups: &mut Groups) {
+    let seed = groups.seed;
+    let edges: [(&str, Vec<Asked>); 9] = [
+        ("about 14,400 s", longest(seed)),
+        ("about the least local hop", least_hops()),
+        ("about the least frame", least_frames()),
+        ("sheets for another rate", other_rates()),
+        ("silent or soft", soft()),
+        ("faint medians", faint()),
+        ("each list shorter and longer", rooms()),
+        ("each check alone and with each later one", refused()),
+        ("one segment, not of the classified key", lone_segments(seed)),
+    ];
+    for (name, inputs) in edges {
+        let name = format!("analyses, {name}");
+        groups.group(&name, inputs.into_iter(), |asked| ours(&asked), |asked| theirs(&asked));
+    }
+}
