@@ -3,8 +3,15 @@
 extern crate key_lime;
 
 #[cfg(oracle)]
+#[path = "../speed/analyses.rs"]
+mod analyses;
+#[cfg(oracle)]
 #[path = "../compare/chromas.rs"]
 mod chromas;
+#[cfg(oracle)]
+#[allow(dead_code)]
+#[path = "../compare/dice.rs"]
+mod dice;
 #[cfg(oracle)]
 #[path = "../speed/filters.rs"]
 mod filters;
@@ -20,6 +27,10 @@ mod random;
 #[cfg(oracle)]
 #[path = "../speed/segments.rs"]
 mod segments;
+#[cfg(oracle)]
+#[allow(dead_code)]
+#[path = "../compare/track_makers.rs"]
+mod track_makers;
 
 use random::patterns;
 use std::hint::black_box;
@@ -133,4 +144,6 @@ fn main() {
     frames::print_row();
     #[cfg(oracle)]
     segments::print_row();
+    #[cfg(oracle)]
+    analyses::print_rows();
 }
