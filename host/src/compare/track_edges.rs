@@ -93,16 +93,26 @@ fn soft() -> Vec<Asked> {
     scales.map(|scale| asked("soft", settings, scaled(scale))).into()
 }
 
-/// Loud frames whose medians are faint: no row sounds, or each of a few notes in too few frames.
+/// Frames that begin with a click, which their window leaves out, before a tone that is hardly there: the chroma is
+/// so small that it is not normalised, and the clicks' growth weighs it.
+fn hardly_there(step: usize) -> Asked {
+    let loudness = 1e-17 * 10f32.powf(step as f32 / 40.0);
+    let mut samples: Vec<f32> = tone(512, 0.33).into_iter().map(|x| x * loudness).collect();
+    samples.iter_mut().step_by(64).enumerate().for_each(|(nth, x)| *x = (1 + 2 * nth) as f32);
+    asked("a tone that is hardly there", settings(8_000, (100, 100), 64, 64), samples)
+}
+
+/// Loud frames whose medians are faint, or just not: no row sounds, or each note in too few frames or hardly.
 fn faint() -> Vec<Asked> {
     let no_rows = asked("no rows", settings(16_000, (250, 255), 40, 20), tone(400, 0.1));
     let click = |loud: usize| {
         let mut samples = vec![0.0; 6_400];
         samples[64 * 50] = 1.0;
         samples.iter_mut().step_by(64).take(loud).for_each(|x| *x = 0.01);
-        asked("clicks at the frames' ends", settings(8_000, (69, 69), 64, 64), samples)
+        asked("clicks where frames begin", settings(8_000, (69, 69), 64, 64), samples)
     };
-    [no_rows].into_iter().chain([0, 1, 2, 3, 30].map(click)).collect()
+    let hardly = (0..120).map(hardly_there);
+    [no_rows].into_iter().chain([0, 1, 2, 3, 30].map(click)).chain(hardly).collect()
 }
 
 /// The list at this place has a row too few, none, or one more.
