@@ -134,8 +134,7 @@ impl Groups {
                 self.print_difference(differ, name, &input, &found, &wanted);
             }
         });
-        println!("{name}: {count} inputs, {differ} differ, {:.2} s", begun.elapsed().as_secs_f64());
-        self.record(count > 0 && differ == 0);
+        self.record(name, count, differ, begun);
     }
 
     /// One test, as above, of inputs made by their number; the machine's processors share them.
@@ -164,8 +163,7 @@ impl Groups {
         let threads = thread::available_parallelism().map_or(1, usize::from);
         thread::scope(|scope| (0..threads).for_each(|_| drop(scope.spawn(work))));
         let differ = differ.into_inner().expect("no thread failed");
-        println!("{name}: {count} inputs, {differ} differ, {:.2} s", begun.elapsed().as_secs_f64());
-        self.record(count > 0 && differ == 0);
+        self.record(name, count as u64, differ, begun);
     }
 
     fn print_difference<A: Compared>(
@@ -184,8 +182,9 @@ impl Groups {
     }
 
     // A group without inputs has shown nothing, so it fails.
-    fn record(&mut self, good: bool) {
-        if good {
+    fn record(&mut self, name: &str, count: u64, differ: u64, begun: Instant) {
+        println!("{name}: {count} inputs, {differ} differ, {:.2} s", begun.elapsed().as_secs_f64());
+        if count > 0 && differ == 0 {
             self.passed += 1;
         } else {
             self.failed += 1;

@@ -21,7 +21,7 @@ const RATES: [u32; 2] = [44_100, 48_000];
 const LONGEST: f32 = 600.0;
 const LONGEST_EVERY: usize = 45;
 
-/// Frame size and notes of tracks whose settings are not the Rust's own.
+/// Frame size and notes; the last are the Rust's own.
 const SHAPES: [(usize, (u8, u8)); 8] = [
     (2_048, (60, 83)),
     (1_024, (57, 80)),
@@ -77,8 +77,8 @@ impl Sheets {
     }
 }
 
-/// One track in three has the Rust's own settings and is short, one in ten of these with room for a few windows;
-/// the others have any length.
+/// One track in three has the Rust's own settings and is short, one in ten of these long enough for windows; the
+/// others have any length. To some calls a row or two more are lent than they ask for.
 fn track(seed: u64, nth: usize, sheets: &Sheets) -> Asked {
     let mut dice = Dice::new(seed, STREAM + nth as u64);
     let rate = dice.one_of(&RATES);
@@ -93,7 +93,9 @@ fn track(seed: u64, nth: usize, sheets: &Sheets) -> Asked {
         if nth % 3 == 0 { Settings::for_rate(rate) } else { coarse_settings(&mut dice, rate, length) };
     let kind = &KINDS[dice.below(KINDS.len())];
     let samples = (kind.make)(&mut Maker { dice, rate }, length);
-    Asked::new(kind.name, settings, sheets.of(&settings), samples)
+    let mut asked = Asked::new(kind.name, settings, sheets.of(&settings), samples);
+    asked.lent_mut().for_each(|lent| *lent += nth / 3 % 3);
+    asked
 }
 
 pub fn compare(groups: &mut Groups) {
