@@ -20,7 +20,7 @@ fn word_of(low: u8, second: u8, third: u8, high: u8) -> u32
 }
 
 // The number in the four bytes from `at` on.
-fn word_at(bytes: &[u8], at: usize) -> u32
+pub fn word_at(bytes: &[u8], at: usize) -> u32
     requires { ⌜ at + 4 ≤ length (now bytes) ⌝ }
     ensures { λ r. ⌜ r ≡ wordAt (now (bytes .entry)) at ⌝ }
 {
@@ -28,7 +28,7 @@ fn word_at(bytes: &[u8], at: usize) -> u32
 }
 
 // The value of the pattern that starts at `at`.
-fn value_at(bytes: &[u8], at: usize) -> f32
+pub fn value_at(bytes: &[u8], at: usize) -> f32
     requires { ⌜ at + 4 ≤ length (now bytes) ⌝ }
     ensures { λ r. ⌜ r ≡ valueAt (now (bytes .entry)) at ⌝ }
 {
@@ -36,7 +36,7 @@ fn value_at(bytes: &[u8], at: usize) -> f32
 }
 
 // Whether two values are the same: bit for bit, and any NaN as any other.
-fn same_value(a: f32, b: f32) -> bool
+pub fn same_value(a: f32, b: f32) -> bool
     ensures { λ r. ⌜ r ≡ sameValue a b ⌝ }
 {
     order_key(a) == order_key(b)

@@ -1,0 +1,4 @@
+pub mod Stored
+pub mod Rows
+pub mod Outcome
+pub mod Analyses
