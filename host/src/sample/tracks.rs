@@ -8,17 +8,16 @@ use std::f32::consts::TAU;
 /// The rate of the sheet.
 pub const RATE: u32 = 160;
 pub const FRAME_SIZE: usize = 32;
+const HOP_SIZE: usize = 48;
 /// Every class of note, and two of them twice, below the oracle's guard against too high notes.
 pub const NOTES: (u8, u8) = (24, 37);
 pub const SAMPLES: usize = 384;
 
-/// One triad for each part of the track: a key number each, as long as another.
-type Chords = &'static [u8];
-
 /// A track by its chords, how loud they and the noise on them are, and what is done to its samples and to its call.
 struct Kind {
     what: &'static str,
-    chords: Chords,
+    /// Key numbers of triads, each of which sounds for as long as the others.
+    chords: &'static [u8],
     loud: f32,
     noise: f32,
     spoil: fn(&mut [f32]),
@@ -35,7 +34,7 @@ pub struct Asked {
     pub samples: Vec<f32>,
 }
 
-const KINDS: [Kind; 24] = [
+const KINDS: [Kind; 25] = [
     Kind { what: "one triad", chords: &[0], ..PLAIN },
     Kind { what: "one minor triad", chords: &[21], ..PLAIN },
     Kind { what: "two keys", chords: &[0, 6], ..PLAIN },
@@ -81,8 +80,14 @@ const KINDS: [Kind; 24] = [
         ask: |a| a.config.local_window_seconds = 12.0,
         ..PLAIN
     },
-    Kind { what: "noise", chords: &[], noise: 0.5, ..PLAIN },
+    Kind { what: "noise", noise: 0.5, ..PLAIN },
     Kind { what: "silence", noise: 0.0, ..PLAIN },
+    Kind {
+        what: "loud frames, faint medians",
+        noise: 0.0,
+        spoil: |s| s.iter_mut().step_by(HOP_SIZE).for_each(|x| *x = 1e-3),
+        ..PLAIN
+    },
     Kind { what: "a loud stretch", chords: &[3], noise: 0.0, spoil: |s| s[160..].fill(0.0), ..PLAIN },
     Kind {
         what: "clipped",
@@ -136,7 +141,7 @@ fn samples(kind: &Kind, stream: u64) -> Vec<f32> {
 fn asked(kind: &Kind, stream: u64) -> Asked {
     let config = KeyConfig {
         frame_size: FRAME_SIZE,
-        hop_size: 48,
+        hop_size: HOP_SIZE,
         minimum_midi_note: NOTES.0,
         maximum_midi_note: NOTES.1,
         local_window_seconds: 0.4,

@@ -2,10 +2,17 @@
 use borrow.Author.Needs.{needs}
 use mathlib.Core.Path.{ap, _∙_}
 use lib.Ieee.{ofBits}
-use native.Mathlib.Omega.{arith}
-use Rattle.replayed_analyses.specs.Outcome.{Sized, sameOutcome}
+use Rattle.replayed_analyses.specs.Outcome.{sameOutcome}
 use Rattle.replayed_analyses.proofs.analyses.call_agrees.Statement.{statement}
 use Rattle.replayed_analyses.proofs.analyses.call_agrees.Tie as tie
+
+-- where the analysis is made, seen from where all its rows are lent again
+abbrev made : tie.After-confidences3 → tie.After-analyse
+made c = c .before .before .before .before .before .before .before .before .before .before .before .before .before .before .before .before .before .before .before .before .before .before
+
+-- the call's start, seen from there
+abbrev start : tie.After-analyse → tie.Start
+start c = c .before .before .before .before .before .before .before .before .before .before .before .before .before .before .before .before .before .before .before .before
 
 slice-aggregate-analyse : tie.Need-slice-aggregate-analyse
 slice-aggregate-analyse c = search needs
@@ -77,11 +84,26 @@ slice-aggregate-outcome-agrees-11 : tie.Need-slice-aggregate-outcome-agrees-11
 slice-aggregate-outcome-agrees-11 c = search needs
 
 outcome-agrees-requires : tie.Need-outcome-agrees-requires
-outcome-agrees-requires c κs = (c .before .before .before .before .before .before .before .before .before .before .before .before .before .before .before .before .before .before .before .before .before .before .before .before .before .before .before .before .before .before .before .before .before .before .before .before .before .before .before .before .before .before .pre, record { centres = search needs; values = search needs; energies = search needs; work = search needs; middles = search needs; numbers = search needs; certainties = search needs; starts = search needs; ends = search needs; keys = search needs; confidences = search needs })
+outcome-agrees-requires c κs = (
+  start (made c) .pre,
+  record {
+    centres = search needs;
+    values = search needs;
+    energies = search needs;
+    work = search needs;
+    middles = search needs;
+    numbers = search needs;
+    certainties = search needs;
+    starts = search needs;
+    ends = search needs;
+    keys = search needs;
+    confidences = search needs;
+  },
+)
 
 returns : tie.Need-returns
 unfolding ofBits
-returns c = c .outcome-agrees .ensures ∙ ap (sameOutcome _ _) (c .before .before .before .before .before .before .before .before .before .before .before .before .before .before .before .before .before .before .before .before .before .before .before .analyse .ensures)
+returns c = c .outcome-agrees .ensures ∙ ap (sameOutcome _ _) (made (c .before) .analyse .ensures)
 
 pub call-agrees-spec : {M : Type 1} → statement M
 call-agrees-spec =

@@ -2,10 +2,12 @@
 use borrow.Author.Needs.{needs}
 use Rattle.replayed_analyses.proofs.Calls.{call-judged}
 use mathlib.Core.Path.{_∙_}
-use native.Mathlib.Omega.{arith}
-use Rattle.replayed_analyses.specs.Analyses.{agrees}
 use Rattle.replayed_analyses.proofs.analyses.record_agrees.Statement.{statement}
 use Rattle.replayed_analyses.proofs.analyses.record_agrees.Tie as tie
+
+-- where the last array is read, seen from where all are lent
+abbrev read : tie.After-qwindows3 → tie.After-read-values6
+read c = c .before .before .before .before .before .before .before .before
 
 settings-at-requires : tie.Need-settings-at-requires
 settings-at-requires c κs = search needs
@@ -80,10 +82,19 @@ slice-aggregate-call-agrees-7 : tie.Need-slice-aggregate-call-agrees-7
 slice-aggregate-call-agrees-7 c = search needs
 
 call-agrees-requires : tie.Need-call-agrees-requires
-call-agrees-requires c κs = c .before .before .before .before .before .before .before .before .before .before .before .before .before .before .before .before .before .before .before .before .before .before .before .before .before .before .before .before .before .before .before .pre .1
+call-agrees-requires c κs = read c .before .before .before .before .before .before .before .before .before .before .before .before .before .before .before .before .before .before .before .before .before .before .before .pre .1
 
 returns : tie.Need-returns
-returns c = c .call-agrees .ensures ∙ call-judged _ _ (c .before .before .before .before .before .before .before .before .before .before .before .before .before .before .before .before .before .before .before .before .before .before .before .before .before .before .before .before .before .before .settings-at .ensures) (c .before .before .before .before .before .before .before .before .before .before .before .before .before .before .before .before .before .before .before .before .before .before .before .before .before .before .before .before .before .head-at .ensures) (c .before .before .before .before .before .before .before .before .before .before .before .before .before .before .before .before .before .before .before .before .before .before .before .before .before .before .before .read-values .ensures) (c .before .before .before .before .before .before .before .before .before .before .before .before .before .before .before .before .before .before .before .before .before .before .before .before .read-values2 .ensures) (c .before .before .before .before .before .before .before .before .before .before .before .before .before .before .before .before .before .before .before .before .before .read-values3 .ensures) (c .before .before .before .before .before .before .before .before .before .before .before .before .before .before .before .before .before .before .read-values4 .ensures) (c .before .before .before .before .before .before .before .before .before .before .before .before .before .before .before .read-numbers .ensures) (c .before .before .before .before .before .before .before .before .before .before .before .before .read-values5 .ensures) (c .before .before .before .before .before .before .before .before .before .read-values6 .ensures)
+returns c =
+    let qwindows = read (c .before) in
+    let qcoefficients = qwindows .before .before .before in
+    let lengths = qcoefficients .before .before .before in
+    let weights = lengths .before .before .before in
+    let coefficients = weights .before .before .before in
+    let window = coefficients .before .before .before in
+    let samples = window .before .before .before in
+    c .call-agrees .ensures
+    ∙ call-judged _ _ (samples .before .before .before .settings-at .ensures) (samples .before .before .head-at .ensures) (samples .read-values .ensures) (window .read-values2 .ensures) (coefficients .read-values3 .ensures) (weights .read-values4 .ensures) (lengths .read-numbers .ensures) (qcoefficients .read-values5 .ensures) (qwindows .read-values6 .ensures)
 
 pub record-agrees-spec : {M : Type 1} → statement M
 record-agrees-spec =
