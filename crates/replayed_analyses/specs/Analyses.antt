@@ -9,7 +9,7 @@ use Rattle.laws.specs.Values.{plusZero}
 use Rattle.calls.specs.Rows.{rows}
 use Rattle.timeline.specs.Estimates.{estimateRows}
 use Rattle.timeline.specs.Segments.{segmentRows}
-use Rattle.analysis.specs.Lent.{Lent, lent}
+use Rattle.rooms.specs.Lent.{Lent, lent}
 use Rattle.analysis.specs.Analyse.{analysed}
 use Rattle.replayed_analyses.specs.Stored.{callAt}
 use Rattle.replayed_analyses.specs.Outcome.{sameOutcome}

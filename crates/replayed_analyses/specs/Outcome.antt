@@ -8,9 +8,9 @@ use lib.Ieee.{Float}
 use Rattle.calls.specs.Rows.{Rows}
 use Rattle.timeline.specs.Estimates.{EstimateRows}
 use Rattle.timeline.specs.Segments.{SegmentRows}
-use Rattle.analysis.specs.Lent.{Lent}
+use Rattle.rooms.specs.Lent.{Lent}
 use Rattle.analysis.specs.Analyse.{Outcome}
-use Rattle.analysis.specs.declared.answer.AnalyseResult.{AnalyseResult}
+use Rattle.verdicts.specs.declared.answer.AnalyseResult.{AnalyseResult}
 use Rattle.replayed_analyses.specs.Rows.{sameValues, sameChroma, sameChromas, sameTimes, sameNumbers}
 
 -- as long as those that each call is lent

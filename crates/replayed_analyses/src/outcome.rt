@@ -5,7 +5,7 @@ ghost use lib.ListN.{length};
 ghost use Rattle.calls.specs.Rows.{lentRows};
 ghost use Rattle.timeline.specs.Estimates.{lentEstimates};
 ghost use Rattle.timeline.specs.Segments.{lentSegments};
-ghost use Rattle.analysis.specs.Lent.{lentAll};
+ghost use Rattle.rooms.specs.Lent.{lentAll};
 ghost use Rattle.analysis.specs.Analyse.{outcome};
 ghost use Rattle.replayed_analyses.specs.Outcome.{Sized, sameAnswer, sameFrames, sameEstimates, sameSegments, sameOutcome};
 use crate::rows::chroma_agrees;
@@ -14,7 +14,7 @@ use crate::rows::counts_agree;
 use crate::rows::numbers_agree;
 use crate::rows::times_agree;
 use crate::rows::values_agree;
-use analysis::answer::AnalyseResult;
+use verdicts::answer::AnalyseResult;
 
 // Whether this is the answer from `at` on.
 fn answer_agrees(bytes: &[u8], at: usize, answer: AnalyseResult) -> bool
