@@ -2,11 +2,11 @@
 use Prim.Native.Nat.{ℕ, zero, suc, _+_, _≤_}
 use mathlib.Core.Path.{_≡_, sym, ap, subst, _∙_}
 use mathlib.Core.Bool.{Bool, true, false, cond}
-use mathlib.Core.List.{List, [], _∷_, _++_, map}
+use mathlib.Core.List.{List, [], _∷_, _++_}
 use native.Mathlib.Omega.{arith}
 use lib.Dec.{ltb}
-use lib.ListN.{length, length-append, length-map}
-use Rattle.laws.specs.Front.{front}
+use lib.ListN.{length, length-append}
+use Rattle.laws.proofs.Column.{column-fits}
 use Rattle.laws.specs.First.{first}
 use Rattle.laws.proofs.First.{first-within}
 use Rattle.calls.specs.Call.{Call}
@@ -42,9 +42,6 @@ either-count : (b : Bool) (k n : ℕ) → count-of (cond b (NotFinite k n) (All 
 either-count true k n = cc
 either-count false k n = cc
 
-fits-in : {A : Type 0} (f : Row → A) (found : List Row) (m : List A) → length found ≤ length (front (map f found) m)
-fits-in f found m = simp (length-append, length-map) (omega arith)
-
 pub run-left : (c : Call) (positions : ℕ) (before : Rows) {n : ℕ} {now : Rows} → ran (All n) now ≡ runOf c positions before → Left positions n now
 unfolding runOf
 run-left c positions before {n} {now} e =
@@ -56,7 +53,7 @@ run-left c positions before {n} {now} e =
     subst (λ (r : Rows). Left positions n r) (sym (ap (λ (r : Run). r .rows) e))
     (record {
       few = omega (arith, count, within, few);
-      centres = let most = fits-in (λ (r : Row). r .centre) found (before .centres) in omega (arith, count, most);
-      values = let most = fits-in (λ (r : Row). r .values) found (before .values) in omega (arith, count, most);
-      energies = let most = fits-in (λ (r : Row). r .energy) found (before .energies) in omega (arith, count, most);
+      centres = let most = column-fits (λ (r : Row). r .centre) found (before .centres) in omega (arith, count, most);
+      values = let most = column-fits (λ (r : Row). r .values) found (before .values) in omega (arith, count, most);
+      energies = let most = column-fits (λ (r : Row). r .energy) found (before .energies) in omega (arith, count, most);
     })

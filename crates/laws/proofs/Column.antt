@@ -1,8 +1,9 @@
 -- Laws of lent rows: slices that are written from the front, a column of a growing list of records.
 use mathlib.Core.Path.{_≡_, refl, sym, ap, _∙_}
 use mathlib.Core.List.{List, [], _∷_, _++_, map, map-append}
-use Prim.Native.Nat.{ℕ, _<_}
-use lib.ListN.{length, getD, set, length-set, length-map, List·getD-append, List·getD-map}
+use Prim.Native.Nat.{ℕ, _<_, _≤_}
+use native.Mathlib.Omega.{arith}
+use lib.ListN.{length, getD, set, length-set, length-append, length-map, List·getD-append, List·getD-map}
 use lib.Seq.{getD-set-same, set-getD}
 use Rattle.laws.specs.Front.{front}
 use Rattle.laws.proofs.Front.{front-more}
@@ -24,6 +25,10 @@ column-more f records r {m₀} {m} n e h c =
       here = ap (λ (l : List _). set l n (f r)) (c .here) ∙ ap (λ (i : ℕ). set (front (map f records) m₀) i (f r)) k ∙ front-more (map f records) m₀ (f r) j ∙ ap (λ (l : List _). front l m₀) (sym (map-append f records (r ∷ [])));
       long = length-set m n (f r) ∙ c .long;
     }
+
+-- as many places as the records take are there
+pub column-fits : {R A : Type 0} (f : R → A) (records : List R) (m : List A) → length records ≤ length (front (map f records) m)
+column-fits f records m = simp (length-append, length-map) (omega arith)
 
 -- an entry that is there, whatever would stand for one that is not
 pub entry-there : {A : Type 0} (xs : List A) (i : ℕ) (d e : A) → i < length xs → getD xs i d ≡ getD xs i e

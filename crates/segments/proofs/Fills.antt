@@ -1,16 +1,16 @@
 -- Laws of filling: groups or the whole track go into the rows, and what shortening makes of them is what it makes of the segments.
 use mathlib.Core.Path.{_≡_, refl, sym, ap, subst, _∙_}
 use mathlib.Core.Bool.{true, false}
-use mathlib.Core.List.{List, [], _∷_, map}
+use mathlib.Core.List.{List, [], _∷_}
 use Prim.Native.Nat.{ℕ, _<_, _≤_}
 use native.Mathlib.Omega.{arith}
 use lib.Dec.{eqb}
-use lib.ListN.{length, length-append, length-map}
+use lib.ListN.{length}
 use lib.Ieee.{Float}
 use borrow.Author.Tests.{eq-eqb, ne-eqb}
-use Rattle.laws.specs.Front.{front}
 use Rattle.laws.specs.Values.{plusZero}
 use Rattle.laws.proofs.Front.{length-list}
+use Rattle.laws.proofs.Column.{column-fits}
 use Rattle.keys.specs.Numbers.{keyNumber}
 use Rattle.timeline.specs.Estimates.{EstimateRows, estimateIn, estimatesIn, Numbered}
 use Rattle.timeline.specs.Segments.{segment, SegmentRows, segmentsIn, putSegment, holdingSegments, Room, Filled, filled, standing}
@@ -40,16 +40,13 @@ module _ (t : Track) (rows : EstimateRows) (count : ℕ) where
       ap (filled 1) (e ∙ held) ∙ rw none
 
 -- as many places as the segments take are there
-fits-in : {A : Type 0} (f : Segment → A) (segments : List Segment) (m : List A) → length segments ≤ length (front (map f segments) m)
-fits-in f segments m = simp (length-append, length-map) (omega arith)
-
 pub held-room : (segments : List Segment) (before : SegmentRows) → Room (holdingSegments segments before) (length segments)
 held-room segments before =
     record {
-      starts = fits-in (λ (s : Segment). s .start) segments (before .starts);
-      ends = fits-in (λ (s : Segment). s .end) segments (before .ends);
-      keys = fits-in (λ (s : Segment). keyNumber (s .key)) segments (before .keys);
-      confidences = fits-in (λ (s : Segment). s .confidence) segments (before .confidences);
+      starts = column-fits (λ (s : Segment). s .start) segments (before .starts);
+      ends = column-fits (λ (s : Segment). s .end) segments (before .ends);
+      keys = column-fits (λ (s : Segment). keyNumber (s .key)) segments (before .keys);
+      confidences = column-fits (λ (s : Segment). s .confidence) segments (before .confidences);
     }
 
 module _ {count : ℕ} {mid : SegmentRows} (segments : List Segment) (before : SegmentRows) (cut : filled count mid ≡ standing segments before) where

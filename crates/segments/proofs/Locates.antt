@@ -1,14 +1,14 @@
 -- Laws of the whole way: what the run over the windows leaves is what the segments need, for each of its answers.
 use mathlib.Core.Path.{_≡_, sym, ap, subst, _∙_}
 use mathlib.Core.Bool.{Bool, true, false, cond}
-use mathlib.Core.List.{List, map}
+use mathlib.Core.List.{List}
 use Prim.Native.Nat.{ℕ, _+_, _^_, _<_, _≤_}
 use native.Mathlib.Omega.{arith}
 use lib.Dec.{ltb}
-use lib.ListN.{length, length-append, length-map}
-use Rattle.laws.specs.Front.{front}
+use lib.ListN.{length}
 use Rattle.laws.specs.First.{first}
 use Rattle.laws.proofs.First.{first-within}
+use Rattle.laws.proofs.Column.{column-fits}
 use Rattle.keys.specs.Numbers.{keyNumber}
 use Rattle.timeline.specs.Estimates.{EstimateRows, holdingEstimates, estimatesIn, Found}
 use Rattle.timeline.specs.Segments.{SegmentRows, Room, filled}
@@ -62,15 +62,12 @@ run-passed {s} {h} {windows} {before} {n} {rows} e = either (ltb k windows) e
           held = ap (λ (r : Run). r .rows) e;
         }
 
-fits-in : {A : Type 0} (f : Estimate → A) (found : List Estimate) (m : List A) → length found ≤ length (front (map f found) m)
-fits-in f found m = simp (length-append, length-map) (omega arith)
-
 held-found : (found : List Estimate) (before : EstimateRows) → length found < 2 ^ 32 → Found (holdingEstimates found before) (length found)
 held-found found before few =
     record {
-      centres = fits-in (λ (e : Estimate). e .centre) found (before .centres);
-      keys = fits-in (λ (e : Estimate). keyNumber (e .key)) found (before .keys);
-      confidences = fits-in (λ (e : Estimate). e .confidence) found (before .confidences);
+      centres = column-fits (λ (e : Estimate). e .centre) found (before .centres);
+      keys = column-fits (λ (e : Estimate). keyNumber (e .key)) found (before .keys);
+      confidences = column-fits (λ (e : Estimate). e .confidence) found (before .confidences);
       numbered = rows-numbered found before;
       few = few;
     }

@@ -1,13 +1,11 @@
 -- Once segments were told, their rows have room for as many.
 use mathlib.Core.Path.{_≡_, sym, ap, subst, _∙_}
 use mathlib.Core.Bool.{Bool, true, false}
-use mathlib.Core.List.{List, map}
+use mathlib.Core.List.{List}
 use Prim.Native.Nat.{ℕ, _≤_}
 use native.Mathlib.Omega.{arith}
-use lib.ListN.{length, length-append, length-map}
+use lib.ListN.{length, length-append}
 use lib.Ieee.{Float}
-use Rattle.laws.specs.Front.{front}
-use Rattle.keys.specs.Numbers.{keyNumber}
 use Rattle.timeline.specs.Estimates.{EstimateRows}
 use Rattle.timeline.specs.Segments.{SegmentRows, Room}
 use Rattle.timeline.specs.declared.segment.Segment.{Segment}
@@ -23,20 +21,19 @@ use Rattle.segments.specs.Track.{Outcome, outcome, followed, locatedOf}
 use Rattle.segments.specs.declared.fill.Track.{Track}
 use Rattle.segments.specs.declared.track.Located.{Located}
 use Rattle.segments.specs.declared.track.Located.the-variants.{Told, Halted}
-
-fits-front : {A : Type 0} (f : Segment → A) (segments : List Segment) (m : List A) → length segments ≤ length (front (map f segments) m)
-fits-front f segments m = simp (length-append, length-map) (omega arith)
+use Rattle.segments.proofs.Fills.{held-room}
 
 settled-room : (least : Float) (segments : List Segment) (before : SegmentRows) → Room (settled least segments before .rows) (settled least segments before .count)
 unfolding leftIn
 settled-room least segments before =
     let left = leftIn least segments in
     let all : length (shortenedOf least segments) ≤ length left = simp length-append (omega arith) in
+    let room = held-room left before in
     record {
-      starts = let most = fits-front (λ (s : Segment). s .start) left (before .starts) in omega (arith, most, all);
-      ends = let most = fits-front (λ (s : Segment). s .end) left (before .ends) in omega (arith, most, all);
-      keys = let most = fits-front (λ (s : Segment). keyNumber (s .key)) left (before .keys) in omega (arith, most, all);
-      confidences = let most = fits-front (λ (s : Segment). s .confidence) left (before .confidences) in omega (arith, most, all);
+      starts = omega (arith, room .starts, all);
+      ends = omega (arith, room .ends, all);
+      keys = omega (arith, room .keys, all);
+      confidences = omega (arith, room .confidences, all);
     }
 
 -- how many segments an answer tells of, and whether it tells of any

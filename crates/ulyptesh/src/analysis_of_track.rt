@@ -8,9 +8,7 @@ use calls::Settings;
 use calls::SheetHead;
 use verdicts::answer::AnalyseResult;
 
-// Analyses a track: loud frames, estimates and segments go into the lent rows from the front, and the answer tells
-// the key, the alternate and how many rows are written. Refusals 1 to 8 by the table; 9 a loud frame that is not
-// finite, with its position; 10 a window whose start does not grow.
+// Analyses a track: frames, estimates and segments go into the lent rows, and the answer tells key and counts.
 #[no_mangle]
 pub extern "C" fn ulyptesh_analyse(
     settings: Settings,

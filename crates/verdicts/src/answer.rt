@@ -6,8 +6,7 @@ use alternates::alternate::Alternate;
 use keys::Key;
 use keys::numbers::key_number;
 
-// The refusal's number, or 0, and the frame position that 9 names; the keys by number, 24 for a missing one; how
-// many rows of each kind are written; the chroma of the whole track.
+// Refusal or 0, the position that 9 names, keys by number (24 for a missing one), how many rows are written, chroma.
 #[repr(C)]
 pub struct AnalyseResult {
     pub refusal: u32,
