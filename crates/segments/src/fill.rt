@@ -11,8 +11,7 @@ use shortening::shorten::shorten_segments;
 use timeline::segment::Segment;
 use timeline::segment::put_segment;
 
-// What the segments of a track rest on beside its estimates: the threshold for a split, the least length, the
-// duration, and the key and the confidence of the whole track.
+// What segments rest on beside estimates: a split's threshold, the least length, the track's duration, key, confidence.
 pub struct Track {
     pub threshold: f32,
     pub minimum: f64,

@@ -13,8 +13,7 @@ use Rattle.timeline.specs.declared.segment.Segment.{Segment}
 unfoldable pub firstShort : Float → List Segment → ℕ
 firstShort least segments = first (λ (i : ℕ). short least (segmentAt segments i)) (length segments) 0
 
--- The earlier of the two that join where segment i is short: the first joins the second, the last the one before it, and any other the
--- longer neighbour, the earlier one where they are as long.
+-- the earlier of the two that join where segment i is short: the first joins the second, the last the one before it, any other the longer neighbour, of equals the earlier
 unfoldable pub keeper : List Segment → ℕ → ℕ
 keeper segments i =
     cond (eqb i 0) 0
