@@ -1,6 +1,6 @@
 -- The calls of a walk over a row of elements, which stands at the head of the context before and after each.
 --     calls-change     a function that changes the row (`Rows.antt`) and returns ()
---     calls-look       a function that looks at the row (`Looks.antt`).        calls-value     a function by value (`Values.antt`), whatever stands at the head
+--     calls-look, calls-told   a function that looks at the row (`Looks.antt`).        calls-value     a function by value (`Values.antt`), whatever stands at the head
 -- It says nothing of the crate.
 use mathlib.Core.Path.{_≡_, refl, sym, _∙_, ap, subst}
 use Prim.Native.Nat.{ℕ}
@@ -51,6 +51,17 @@ module _ {M : Type 1} {𝓤 : URA M} {H : Heap 𝓤} {A : Atoms 𝓤} {K : Type 
   calls-look t fm {R} l met s b o n ys len room a good asked Q so vs same os k =
       calls-from t fm (‵ (row R s ys b o)) (sliceVal (b, o) (length ys) ∷ vs) _ (Looks.lowers l 𝓤 H A W (C f) (fm f) (met .0) (met .1) s b o ys (subst (Room R) (sym len) room) a good asked Q so vs same) (subst (λ (m : ℕ). Opds K W (‵ (row R s ys b o) ∷ Γ) E xs (sliceVal (b, o) m ∷ vs)) (sym len) os) (λ v.
       use1 W (later (some (λ (r : l .result .type .Denot). given (Is (l .result .type) r (v ∷ []) × Q r) (‵ (row R s ys b o))))) (id⊢ 𝓤 _) $ await t tt $ pick t (λ r. learn t (λ known. k v r (known .0) (known .1))))
+
+  -- the same where the result has one machine value, val r
+  pub calls-told : K → FmC 𝓤 H (W .laws) C → {R : RattleType} (t : Look R) → Looks.Knows t 𝓤 H A (C f) → (val : t .result .type .Denot → Val) → ((r : t .result .type .Denot) → t .result .vals r ≡ val r ∷ [])
+      → (s : Share) (b o n : ℕ) (ys : List (R .Denot)) → length ys ≡ n → Room R n → (a : (κs : Lfts 1) → Rest κs (t .params)) → ((κs : Lfts 1) → Good κs (t .params) (a κs)) → ((κs : Lfts 1) → t .asks κs ys (a κs))
+      → (Q : t .result .type .Denot → Type 0) → ((κs : Lfts 1) (r : t .result .type .Denot) → t .promises κs ys (a κs) r → Q r) → (vs : List Val) → ((κs : Lfts 1) → flatly κs (t .params) (a κs) ≡ vs)
+      → Opds K W (‵ (row R s ys b o) ∷ Γ) E xs (sliceVal (b, o) n ∷ vs)
+      → ((r : t .result .type .Denot) → Is (t .result .type) r (val r ∷ []) → Q r → Seq K W (‵ (row R s ys b o) ∷ Γ) (lands C Λ E d (val r) rest q))
+      → Seq K W (‵ (row R s ys b o) ∷ Γ) (runs C Λ E (seq (call f xs d) rest) q)
+  calls-told t fm {R} l met val one s b o n ys len room a good asked Q so vs same os k = calls-look t fm l met s b o n ys len room a good asked Q so vs same os (λ v r is promised.
+      let told : v ∷ [] ≡ val r ∷ [] = l .result .tells r (v ∷ []) is ∙ one r in
+      subst (λ (u : Val). Seq K W (‵ (row R s ys b o) ∷ Γ) (lands C Λ E d u rest q)) (sym (ap only told)) (k r (subst (Is (l .result .type) r) told is) promised))
 
   pub calls-value : K → FmC 𝓤 H (W .laws) C → (t : Value) → Values.Knows t 𝓤 H A (C f) → {i : Item 𝓤} (a : Denots (Values.kinds (t .params))) → Are (Values.kinds (t .params)) (Ises (Values.kinds (t .params))) a (Values.spelt t a)
       → (v : Val) → t .result .vals (t .is a) ≡ v ∷ [] → Opds K W (i ∷ Γ) E xs (flat (Values.kinds (t .params)) (Values.spelt t a)) → (Is (t .result .type) (t .is a) (v ∷ []) → Seq K W (i ∷ Γ) (lands C Λ E d v rest q))

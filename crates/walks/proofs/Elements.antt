@@ -3,7 +3,7 @@
 --     Read, Write      `fn read_at(s: &[T], i: usize) -> T` and `fn write_at(s: &mut [T], i: usize, x: T)`, as `Looks.antt` and `Rows.antt` state them
 --     calls-read       the row is as it was, and element i is what lands.        calls-write      element i of the row is x
 -- It says nothing of the crate.
-use mathlib.Core.Path.{_≡_, refl, sym, _∙_, ap, subst}
+use mathlib.Core.Path.{_≡_, refl, sym, ap, subst}
 use Prim.Native.Nat.{ℕ, _<_, _^_}
 use mathlib.Core.List.{List, [], _∷_, _++_}
 use lib.ListN.{length, getD, set}
@@ -21,13 +21,12 @@ use denote.RattleType.{RattleType}
 use denote.Laws.{Is}
 use denote.Slice.{sliceVal, Room}
 use denote.Index.{row}
-use denote.Steps.{only}
 use Rattle.walks.proofs.Plain.{Plain, number}
 use Rattle.walks.proofs.Rows as Rows
 use Rattle.walks.proofs.Rows.{Change, task}
 use Rattle.walks.proofs.Looks as Looks
 use Rattle.walks.proofs.Looks.{Look}
-use Rattle.walks.proofs.Calls.{calls-change, calls-look}
+use Rattle.walks.proofs.Calls.{calls-change, calls-told}
 
 pub record Element : Type 2 where
   pub plain : Plain
@@ -50,11 +49,8 @@ module _ {M : Type 1} {𝓤 : URA M} {H : Heap 𝓤} {A : Atoms 𝓤} {K : Type 
       → Opds K W (‵ (row (Row e) s ys b o) ∷ Γ) E xs (sliceVal (b, o) n ∷ vint w64 i ∷ [])
       → (Is (Row e) (getD ys i (e .past)) (e .val (getD ys i (e .past)) ∷ []) → Seq K W (‵ (row (Row e) s ys b o) ∷ Γ) (lands C Λ E d (e .val (getD ys i (e .past))) rest q))
       → Seq K W (‵ (row (Row e) s ys b o) ∷ Γ) (runs C Λ E (seq (call f xs d) rest) q)
-  calls-read t fm e known s b o n ys len room i fits within os k = calls-look t fm (Read e) known s b o n ys len room (λ _. (i, tt)) (λ _. ((refl, fits), tt)) (λ _. within) (λ r. r ≡ getD ys i (e .past)) (λ _ _ p. p) (vint w64 i ∷ []) (λ _. refl) os (λ v r is p.
-      let x : Row e .Denot = getD ys i (e .past) in
-      let is′ : Is (Row e) x (v ∷ []) = subst (λ (z : Row e .Denot). Is (Row e) z (v ∷ [])) p is in
-      let told : v ∷ [] ≡ e .val x ∷ [] = e .plain .tells x (v ∷ []) is′ ∙ e .one x in
-      subst (λ (u : Val). Seq K W (‵ (row (Row e) s ys b o) ∷ Γ) (lands C Λ E d u rest q)) (sym (ap only told)) (k (subst (Is (Row e) x) told is′)))
+  calls-read t fm e known s b o n ys len room i fits within os k = calls-told t fm (Read e) known (e .val) (e .one) s b o n ys len room (λ _. (i, tt)) (λ _. ((refl, fits), tt)) (λ _. within) (λ r. r ≡ getD ys i (e .past)) (λ _ _ p. p) (vint w64 i ∷ []) (λ _. refl) os (λ r is p.
+      subst (λ (z : Row e .Denot). Is (Row e) z (e .val z ∷ []) → Seq K W (‵ (row (Row e) s ys b o) ∷ Γ) (lands C Λ E d (e .val z) rest q)) (sym p) k is)
 
   pub calls-write : K → FmC 𝓤 H (W .laws) C → (e : Element) → Rows.Knows (task (Write e)) 𝓤 H A (C f) → (b o n : ℕ) (ys : List (Row e .Denot)) → length ys ≡ n → Room (Row e) n → (i : ℕ) → i < 2 ^ 64 → i < length ys → (x : Row e .Denot) → Is (Row e) x (e .val x ∷ [])
       → Opds K W (‵ (row (Row e) fullShare ys b o) ∷ Γ) E xs (sliceVal (b, o) n ∷ vint w64 i ∷ e .val x ∷ [])

@@ -1,7 +1,7 @@
 -- A function's locals in a walk, all at once: local k stands at position k + 2 of the context, behind what the function works on (i, a row as a rule) and what says that the locals die. So a rule computes the position from the MIR, and a proof answers `refl`.
 --     locals           the function is entered: [i; …; room for _0; room for _1; …]
 --     var, vars2, vars3    operands that are locals.        points, counts       the two parts of a slice that is held in a local
---     sets             `_k = rvalue`, where _k was room.        relends      `_p = &*_k.0; _s = (_p, _k.1)`: the slice in _k is lent on
+--     sets, resets     `_k = rvalue`, where _k was room, was full.        relends      `_p = &*_k.0; _s = (_p, _k.1)`: the slice in _k is lent on
 --     lands-in, lands-on   the result of a call is stored in a local that was room, that was full
 --     ifs, breaks      `if c { a }`, and then the rest, and a `break` in a.        whiles, tests, resets-last      a `while`: the loop, its test, and the last statement of a turn
 --     leaves           the function returns: each local is freed, whether it was written (full) or not (empty), and i is left to show the postcondition.        leaves-within    the same inside a loop or a branch
@@ -127,6 +127,10 @@ module _ {M : Type 1} {𝓤 : URA M} {H : Heap 𝓤} {A : Atoms 𝓤} {K : Type 
     -- local k, which was room, is set; the result of a call lands in it
     pub sets : K → {k : ℕ} {v : Val} {rv : RValue} → Rv K W Γ E rv v → Local′ 𝓤 H A Γ k ≡ Room 𝓤 H A E k → Holds (hasTy (spotOf 𝓤 H E k .0) v) × WT v → Step K W (put 𝓤 H A (2 + k) (Full 𝓤 H A E k v) Γ) (runs C Λ E rest q) Γ (runs C Λ E (seq (assign (place k []) rv) rest) q)
     sets t {k} r e typed = assigns t r (from t (stop t)) (init t (2 + k) e typed)
+
+    -- local k is set anew
+    pub resets : K → {k : ℕ} {u v : Val} {rv : RValue} → Rv K W Γ E rv v → Local′ 𝓤 H A Γ k ≡ Full 𝓤 H A E k u → Holds (hasTy (spotOf 𝓤 H E k .0) v) × WT v → Step K W (put 𝓤 H A (2 + k) (Full 𝓤 H A E k v) Γ) (runs C Λ E rest q) Γ (runs C Λ E (seq (assign (place k []) rv) rest) q)
+    resets t {k} r e typed = assigns t r (from t (stop t)) (store t (2 + k) e typed)
 
     pub lands-in : K → {k : ℕ} {v : Val} → Local′ 𝓤 H A Γ k ≡ Room 𝓤 H A E k → Holds (hasTy (spotOf 𝓤 H E k .0) v) × WT v → Step K W (put 𝓤 H A (2 + k) (Full 𝓤 H A E k v) Γ) (runs C Λ E rest q) Γ (lands C Λ E (place k []) v rest q)
     lands-in t {k} e typed = land t (from t (stop t)) (init t (2 + k) e typed)

@@ -18,12 +18,12 @@ pub use types.Part.{whole, sub, look-in}
 pub use denote.Laws.{Is, shows}
 pub use denote.Slice.{sliceVal}
 pub use denote.Index.{row, place-is, elem-out, elem-back, elem-put}
-pub use Rattle.walks.proofs.Locals.{locals, leaves, leaves-within, ifs, breaks, full, var, vars2, vars3, relends, sets, lands-in, lands-on, Spots, env, die, Full, Room, tests, resets-last, whiles, empty}
+pub use Rattle.walks.proofs.Locals.{locals, leaves, leaves-within, ifs, breaks, full, var, vars2, vars3, relends, sets, resets, lands-in, lands-on, Spots, env, die, Full, Room, tests, resets-last, whiles, empty}
 pub use denote.Steps.{owned}
 pub use Rattle.walks.proofs.Rows.{task}
 pub use sound.WpLaws.{fmOf}
 pub use Rattle.walks.proofs.Elements.{calls-read, calls-write}
-pub use lib.Dec.{ltb→lt, nltb→le, lit<}
+pub use lib.Dec.{ltb→lt, nltb→le, leb→le, nleb→lt, lit<}
 pub use base.Logic.{guardI}
 pub use Rattle.walks.proofs.Known.{Known-row, known, knowing}
-pub use Rattle.walks.proofs.Calls.{calls-change, calls-look, calls-value}
+pub use Rattle.walks.proofs.Calls.{calls-change, calls-told, calls-value}
