@@ -34,8 +34,8 @@ use Rattle.walks.proofs.Values.{Value}
 
 module _ {M : Type 1} {𝓤 : URA M} {H : Heap 𝓤} {A : Atoms 𝓤} {K : Type 0} {W : Given 𝓤 H A} {Γ : List (Item 𝓤)} {E : Env 𝓤 H} {C : Calls 𝓤 H} {Λ : Loops 𝓤 H} {q : Post 𝓤 H} {f : Name} {xs : List Operand} {d : Place} {rest : Body} where
   pub calls-change : K → FmC 𝓤 H (W .laws) C → {R : RattleType} (t : Change R) → Rows.Knows (task t) 𝓤 H A (C f)
-      → (b o n : ℕ) (ys : List (R .Denot)) → length ys ≡ n → Room R n → (a : (κs : Lfts 1) → Rest κs (t .params)) → ((κs : Lfts 1) → Good κs (t .params) (a κs)) → ((κs : Lfts 1) → t .asks κs ys (a κs))
-      → (zs : List (R .Denot)) → ((κs : Lfts 1) → t .becomes κs ys (a κs) ≡ zs) → (vs : List Val) → ((κs : Lfts 1) → flatly κs (t .params) (a κs) ≡ vs)
+      → (b o n : ℕ) (ys : List (R .Denot)) → length ys ≡ n → Room R n → (a : (κs : Lfts 1) → Rest 1 κs (t .params)) → ((κs : Lfts 1) → Good 1 κs (t .params) (a κs)) → ((κs : Lfts 1) → t .asks κs ys (a κs))
+      → (zs : List (R .Denot)) → ((κs : Lfts 1) → t .becomes κs ys (a κs) ≡ zs) → (vs : List Val) → ((κs : Lfts 1) → flatly 1 κs (t .params) (a κs) ≡ vs)
       → Opds K W (‵ (row R fullShare ys b o) ∷ Γ) E xs (sliceVal (b, o) n ∷ vs) → (length zs ≡ n → Seq K W (‵ (row R fullShare zs b o) ∷ Γ) (lands C Λ E d vunit rest q)) → Seq K W (‵ (row R fullShare ys b o) ∷ Γ) (runs C Λ E (seq (call f xs d) rest) q)
   calls-change t fm {R} c met b o n ys len room a good asked zs e vs same os k =
       calls-from t fm (‵ (row R fullShare ys b o)) (sliceVal (b, o) (length ys) ∷ vs) _ (Rows.lowers (task c) 𝓤 H A W (C f) (fm f) (met .0) (met .1) b o ys (subst (Room R) (sym len) room) a good asked (λ _ l. l ≡ zs) (λ κs _ l p. subst (λ (z : List (R .Denot)). l ≡ z) (e κs) p) vs same) (subst (λ (m : ℕ). Opds K W (‵ (row R fullShare ys b o) ∷ Γ) E xs (sliceVal (b, o) m ∷ vs)) (sym len) os) (λ v.
@@ -43,8 +43,8 @@ module _ {M : Type 1} {𝓤 : URA M} {H : Heap 𝓤} {A : Atoms 𝓤} {K : Type 
       rewrite t 0 (λ (z : List (R .Denot)). ‵ (row R fullShare z b o)) (known .2) refl $ subst (λ (u : Val). Seq K W (‵ (row R fullShare zs b o) ∷ Γ) (lands C Λ E d u rest q)) (sym (ap only (known .0))) (k (ap length (sym (known .2)) ∙ known .1 ∙ len))))))
 
   pub calls-look : K → FmC 𝓤 H (W .laws) C → {R : RattleType} (t : Look R) → Looks.Knows t 𝓤 H A (C f)
-      → (s : Share) (b o n : ℕ) (ys : List (R .Denot)) → length ys ≡ n → Room R n → (a : (κs : Lfts 1) → Rest κs (t .params)) → ((κs : Lfts 1) → Good κs (t .params) (a κs)) → ((κs : Lfts 1) → t .asks κs ys (a κs))
-      → (Q : t .result .type .Denot → Type 0) → ((κs : Lfts 1) (r : t .result .type .Denot) → t .promises κs ys (a κs) r → Q r) → (vs : List Val) → ((κs : Lfts 1) → flatly κs (t .params) (a κs) ≡ vs)
+      → (s : Share) (b o n : ℕ) (ys : List (R .Denot)) → length ys ≡ n → Room R n → (a : (κs : Lfts 1) → Rest 1 κs (t .params)) → ((κs : Lfts 1) → Good 1 κs (t .params) (a κs)) → ((κs : Lfts 1) → t .asks κs ys (a κs))
+      → (Q : t .result .type .Denot → Type 0) → ((κs : Lfts 1) (r : t .result .type .Denot) → t .promises κs ys (a κs) r → Q r) → (vs : List Val) → ((κs : Lfts 1) → flatly 1 κs (t .params) (a κs) ≡ vs)
       → Opds K W (‵ (row R s ys b o) ∷ Γ) E xs (sliceVal (b, o) n ∷ vs)
       → ((v : Val) (r : t .result .type .Denot) → Is (t .result .type) r (v ∷ []) → Q r → Seq K W (‵ (row R s ys b o) ∷ Γ) (lands C Λ E d v rest q))
       → Seq K W (‵ (row R s ys b o) ∷ Γ) (runs C Λ E (seq (call f xs d) rest) q)
@@ -54,8 +54,8 @@ module _ {M : Type 1} {𝓤 : URA M} {H : Heap 𝓤} {A : Atoms 𝓤} {K : Type 
 
   -- the same where the result has one machine value, val r
   pub calls-told : K → FmC 𝓤 H (W .laws) C → {R : RattleType} (t : Look R) → Looks.Knows t 𝓤 H A (C f) → (val : t .result .type .Denot → Val) → ((r : t .result .type .Denot) → t .result .vals r ≡ val r ∷ [])
-      → (s : Share) (b o n : ℕ) (ys : List (R .Denot)) → length ys ≡ n → Room R n → (a : (κs : Lfts 1) → Rest κs (t .params)) → ((κs : Lfts 1) → Good κs (t .params) (a κs)) → ((κs : Lfts 1) → t .asks κs ys (a κs))
-      → (Q : t .result .type .Denot → Type 0) → ((κs : Lfts 1) (r : t .result .type .Denot) → t .promises κs ys (a κs) r → Q r) → (vs : List Val) → ((κs : Lfts 1) → flatly κs (t .params) (a κs) ≡ vs)
+      → (s : Share) (b o n : ℕ) (ys : List (R .Denot)) → length ys ≡ n → Room R n → (a : (κs : Lfts 1) → Rest 1 κs (t .params)) → ((κs : Lfts 1) → Good 1 κs (t .params) (a κs)) → ((κs : Lfts 1) → t .asks κs ys (a κs))
+      → (Q : t .result .type .Denot → Type 0) → ((κs : Lfts 1) (r : t .result .type .Denot) → t .promises κs ys (a κs) r → Q r) → (vs : List Val) → ((κs : Lfts 1) → flatly 1 κs (t .params) (a κs) ≡ vs)
       → Opds K W (‵ (row R s ys b o) ∷ Γ) E xs (sliceVal (b, o) n ∷ vs)
       → ((r : t .result .type .Denot) → Is (t .result .type) r (val r ∷ []) → Q r → Seq K W (‵ (row R s ys b o) ∷ Γ) (lands C Λ E d (val r) rest q))
       → Seq K W (‵ (row R s ys b o) ∷ Γ) (runs C Λ E (seq (call f xs d) rest) q)

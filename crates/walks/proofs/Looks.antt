@@ -44,18 +44,18 @@ use Rattle.walks.proofs.Plain.{Plain, slots, kept, stays, kinds, Rest, 
 pub record Look (R : RattleType) : Type 2 where
   pub params : List Plain
   pub result : Plain
-  pub asks : (κs : Lfts 1) → List (R .Denot) → Rest κs params → Type 0
-  pub promises : (κs : Lfts 1) → List (R .Denot) → Rest κs params → result .type .Denot → Type 0
+  pub asks : (κs : Lfts 1) → List (R .Denot) → Rest 1 κs params → Type 0
+  pub promises : (κs : Lfts 1) → List (R .Denot) → Rest 1 κs params → result .type .Denot → Type 0
 
 module _ {R : RattleType} (t : Look R) where
   abbrev ps : List Plain
   ps = t .params
 
   abbrev pub ended : Ended
-  ended = record { signature = record { lifetimes = 1; outlives = []; params = shrSlice 0 tt (λ _. R) ∷ slots ps; result = plain (λ _. t .result .type) }; kept = (yes, kept ps) }
+  ended = record { signature = record { lifetimes = 1; outlives = []; params = shrSlice 0 tt (λ _. R) ∷ slots 1 ps; result = plain (λ _. t .result .type) }; kept = (yes, kept 1 ps) }
 
   abbrev stayed : Stays (ended .signature .params) (ended .kept)
-  stayed = (stay-none-slice (0 ∷ []) tt (plain (λ _. R)) yes, stays ps)
+  stayed = (stay-none-slice (0 ∷ []) tt (plain (λ _. R)) yes, stays 1 ps)
 
   module _ {M : Type 1} (𝓤 : URA M) (H : Heap 𝓤) (A : Atoms 𝓤) where
     abbrev pub clauses : Clauses 𝓤 ended
@@ -65,23 +65,23 @@ module _ {R : RattleType} (t : Look R) where
     abbrev pub Knows : Fun 𝓤 → Type 2
     Knows run = Enters 𝓤 H run × Meets 𝓤 H A (ended .signature) run (closing 𝓤 H A ended clauses)
 
-    abbrev pub Left : (κs : Lfts 1) → Share → ℕ → ℕ → List (R .Denot) → Rest κs ps → Val → SProp 𝓤
+    abbrev pub Left : (κs : Lfts 1) → Share → ℕ → ℕ → List (R .Denot) → Rest 1 κs ps → Val → SProp 𝓤
     Left κs q b o ys a v = H .⇛ (ex 𝓤 (λ (r : t .result .type .Denot). guard 𝓤 (Is (t .result .type) r (v ∷ []) × t .promises κs ys a r) (sem 𝓤 H A (row R q ys b o))))
 
     abbrev pub Sees : Fun 𝓤 → Type 1
-    Sees run = (κs : Lfts 1) (q : Share) (b o : ℕ) (ys : List (R .Denot)) (a : Rest κs ps) → Room R (length ys) → Good κs ps a → t .asks κs ys a
-        → ent 𝓤 (sem 𝓤 H A (row R q ys b o)) (run (sliceVal (b, o) (length ys) ∷ flatly κs ps a) (Left κs q b o ys a))
+    Sees run = (κs : Lfts 1) (q : Share) (b o : ℕ) (ys : List (R .Denot)) (a : Rest 1 κs ps) → Room R (length ys) → Good 1 κs ps a → t .asks κs ys a
+        → ent 𝓤 (sem 𝓤 H A (row R q ys b o)) (run (sliceVal (b, o) (length ys) ∷ flatly 1 κs ps a) (Left κs q b o ys a))
 
     module _ (W : Given 𝓤 H A) where
       -- how a walk ends
-      pub leaves : (κs : Lfts 1) (q : Share) (b o : ℕ) (ys : List (R .Denot)) (a : Rest κs ps) (v : Val) (r : t .result .type .Denot) → Is (t .result .type) r (v ∷ []) × t .promises κs ys a r → ent 𝓤 (sem 𝓤 H A (row R q ys b o)) (Left κs q b o ys a v)
+      pub leaves : (κs : Lfts 1) (q : Share) (b o : ℕ) (ys : List (R .Denot)) (a : Rest 1 κs ps) (v : Val) (r : t .result .type .Denot) → Is (t .result .type) r (v ∷ []) × t .promises κs ys a r → ent 𝓤 (sem 𝓤 H A (row R q ys b o)) (Left κs q b o ys a v)
       leaves κs q b o ys a v r k = qed W (‵ (row R q ys b o) ∷ []) ∵ updating ! $ at-once ! $ show ! (λ (s : t .result .type .Denot). guard 𝓤 (Is (t .result .type) s (v ∷ []) × t .promises κs ys a s) (sem 𝓤 H A (row R q ys b o))) r $ check ! k $ done !
 
-      still : (κs : Lfts 1) (a : Rest κs ps) → ent 𝓤 (sem 𝓤 H A (owns (kinds κs ps) a (spelt κs ps a))) (sem 𝓤 H A (hasOf κs (slots ps) (kept ps) (stays ps) a (last κs ps a) (spelt κs ps a)))
-      still κs a = subst (λ (P : Fml). ent 𝓤 (sem 𝓤 H A (owns (kinds κs ps) a (spelt κs ps a))) (sem 𝓤 H A P)) (had κs ps a (spelt κs ps a)) (id⊢ 𝓤 _)
+      still : (κs : Lfts 1) (a : Rest 1 κs ps) → ent 𝓤 (sem 𝓤 H A (owns (kinds 1 κs ps) a (spelt 1 κs ps a))) (sem 𝓤 H A (hasOf κs (slots 1 ps) (kept 1 ps) (stays 1 ps) a (last 1 κs ps a) (spelt 1 κs ps a)))
+      still κs a = subst (λ (P : Fml). ent 𝓤 (sem 𝓤 H A (owns (kinds 1 κs ps) a (spelt 1 κs ps a))) (sem 𝓤 H A P)) (had 1 κs ps a (spelt 1 κs ps a)) (id⊢ 𝓤 _)
 
       module _ (run : Fun 𝓤) (fm : FmF 𝓤 run) (soaks : Enters 𝓤 H run) where
-        module _ (κs : Lfts 1) (q : Share) (b o : ℕ) (γ : GName) (ys : List (R .Denot)) (a : Rest κs ps) where
+        module _ (κs : Lfts 1) (q : Share) (b o : ℕ) (γ : GName) (ys : List (R .Denot)) (a : Rest 1 κs ps) where
           abbrev κ : Lft
           κ = κs .0
 
@@ -92,11 +92,11 @@ module _ {R : RattleType} (t : Look R) where
           s = sliceVal (b, o) (length ys)
 
           abbrev Post : Val → SProp 𝓤
-          Post = walkOf 𝓤 H A ended stayed clauses .post ((κs, (q, tt), tt, (x, a), (s ∷ [], spelt κs ps a)), tt)
+          Post = walkOf 𝓤 H A ended stayed clauses .post ((κs, (q, tt), tt, (x, a), (s ∷ [], spelt 1 κs ps a)), tt)
 
           -- the open share, and what the slice and the other parameters own
           abbrev Kept : Share → List (Item 𝓤)
-          Kept q′ = ‵ (fobor κ q (arr-parts (shares R) (length ys) .part q′ ys b o)) ∷ ‵ (fshr-bor κ (λ s. arr-parts (shares R) (length ys) .part s ys b o)) ∷ ‵ (fres γ (codedHoleys R .code (heres R ys))) ∷ ‵ (at-slice R x (s ∷ [])) ∷ ‵ (owns (kinds κs ps) a (spelt κs ps a)) ∷ []
+          Kept q′ = ‵ (fobor κ q (arr-parts (shares R) (length ys) .part q′ ys b o)) ∷ ‵ (fshr-bor κ (λ s. arr-parts (shares R) (length ys) .part s ys b o)) ∷ ‵ (fres γ (codedHoleys R .code (heres R ys))) ∷ ‵ (at-slice R x (s ∷ [])) ∷ ‵ (owns (kinds 1 κs ps) a (spelt 1 κs ps a)) ∷ []
 
           shuts : (q′ : Share) (v : Val) → ent 𝓤 (⋆ 𝓤 H A (raw (Left κs q′ b o ys a v) ∷ Kept q′)) (Post v)
           shuts q′ v =
@@ -104,28 +104,28 @@ module _ {R : RattleType} (t : Look R) where
               use1 W (later (some (λ (r : t .result .type .Denot). given (Is (t .result .type) r (v ∷ []) × t .promises κs ys a r) (‵ (row R q′ ys b o))))) (id⊢ 𝓤 _) $ await ! tt $ pick ! (λ r. learn ! (λ k.
               shuts-slice ! tt R q′ ys b o $ at-once ! $
               -- [the token; the shared borrow; res; the slice's fact; what the others own]
-              suffices ! _ (ends-at 𝓤 H A ended stayed clauses W ((κs, (q, tt), tt, (x, a), (s ∷ [], spelt κs ps a)), tt) v r (tt, last κs ps a) (tt, fit κs ps a)) $ says ! (k .1) $
+              suffices ! _ (ends-at 𝓤 H A ended stayed clauses W ((κs, (q, tt), tt, (x, a), (s ∷ [], spelt 1 κs ps a)), tt) v r (tt, last 1 κs ps a) (tt, fit 1 κs ps a)) $ says ! (k .1) $
               nothing ! $ move ! (1 ∷ 0 ∷ []) $ join ! $ frame ! $ move ! (1 ∷ 0 ∷ []) $ fjoin ! $ move ! (1 ∷ 0 ∷ []) $ fjoin ! $
-              move ! (1 ∷ []) $ use1 W (‵ (hasOf κs (slots ps) (kept ps) (stays ps) a (last κs ps a) (spelt κs ps a))) (still κs a) $ move ! (1 ∷ 0 ∷ []) $ fjoin ! $ frame ! $ owned ! (t .result .type) (Is (t .result .type)) (t .result .makes M 𝓤 H A W) r _ (k .0) $ done !))
+              move ! (1 ∷ []) $ use1 W (‵ (hasOf κs (slots 1 ps) (kept 1 ps) (stays 1 ps) a (last 1 κs ps a) (spelt 1 κs ps a))) (still κs a) $ move ! (1 ∷ 0 ∷ []) $ fjoin ! $ frame ! $ owned ! (t .result .type) (Is (t .result .type)) (t .result .makes M 𝓤 H A W) r _ (k .0) $ done !))
 
           module _ (vals : R .Denot → List Val) (tells : Tells R (Is R) vals) (copies : Copy 𝓤 H A R) where
-            looks : Room R (length ys) → Good κs ps a → t .asks κs ys a → Sees run
-                → ent 𝓤 (onEntry 𝓤 H A (ended .signature) κs (q, tt) (x, a) (s ∷ [], spelt κs ps a)) (run (s ∷ flatly κs ps a) Post)
+            looks : Room R (length ys) → Good 1 κs ps a → t .asks κs ys a → Sees run
+                → ent 𝓤 (onEntry 𝓤 H A (ended .signature) κs (q, tt) (x, a) (s ∷ [], spelt 1 κs ps a)) (run (s ∷ flatly 1 κs ps a) Post)
             looks room good asked sees =
-                qed W ((‵ (flft κ q) ⊛ ‵ ftrue) ∷ ‵ (owns (ShrSlice (named 0) κ R ∷ kinds κs ps) (x, a) (s ∷ [], spelt κs ps a)) ∷ []) ∵ suffices ! (H .⇛ (run (s ∷ flatly κs ps a) Post)) (soaks (s ∷ flatly κs ps a) Post) $ updating ! $
+                qed W ((‵ (flft κ q) ⊛ ‵ ftrue) ∷ ‵ (owns (ShrSlice (named 0) κ R ∷ kinds 1 κs ps) (x, a) (s ∷ [], spelt 1 κs ps a)) ∷ []) ∵ suffices ! (H .⇛ (run (s ∷ flatly 1 κs ps a) Post)) (soaks (s ∷ flatly 1 κs ps a) Post) $ updating ! $
                 move ! (1 ∷ []) $ fsplit ! $ fsplit ! $ move ! (1 ∷ []) $ fsplit ! $ move ! (4 ∷ []) $ split ! $ move ! (3 ∷ 0 ∷ []) $ looks-slice ! tt R (Is R) (shows 𝓤 H A R) vals tells copies ys b o (λ q′. at-once ! $
                 -- [the row; the open share; the shared borrow; true; res; the slice's fact; what the others own]
                 keep ! (0 ∷ 1 ∷ 2 ∷ 4 ∷ 5 ∷ 6 ∷ []) $ by !
-                (via 𝓤 (sep 𝓤 (run (s ∷ flatly κs ps a) (Left κs q′ b o ys a)) (⋆ 𝓤 H A (Kept q′))) (monoL 𝓤 (⋆ 𝓤 H A (Kept q′)) (sees κs q′ b o ys a room good asked))
-                (fm (s ∷ flatly κs ps a) (Left κs q′ b o ys a) Post (⋆ 𝓤 H A (Kept q′)) (shuts q′))))
+                (via 𝓤 (sep 𝓤 (run (s ∷ flatly 1 κs ps a) (Left κs q′ b o ys a)) (⋆ 𝓤 H A (Kept q′))) (monoL 𝓤 (⋆ 𝓤 H A (Kept q′)) (sees κs q′ b o ys a room good asked))
+                (fm (s ∷ flatly 1 κs ps a) (Left κs q′ b o ys a) Post (⋆ 𝓤 H A (Kept q′)) (shuts q′))))
 
         pub lifts : (vals : R .Denot → List Val) → Tells R (Is R) vals → Copy 𝓤 H A R → Sees run → Meets 𝓤 H A (ended .signature) run (closing 𝓤 H A ended clauses)
-        lifts vals tells copies sees = walk-meets 𝓤 H A ended stayed W (goes-none-slice 𝓤 H A W 1 (0 ∷ []) tt (plain (λ _. R)) yes, go 𝓤 H A W ps) clauses run (λ vs. fm→mono 𝓤 (run vs) (fm vs))
-            (walked 𝓤 H A ended stayed clauses run (λ κs. (slice-vals, spells κs ps)) (λ κs. (shr-slice-tells (named 0) (κs .0) R, tell κs ps))
+        lifts vals tells copies sees = walk-meets 𝓤 H A ended stayed W (goes-none-slice 𝓤 H A W 1 (0 ∷ []) tt (plain (λ _. R)) yes, go 𝓤 H A W 1 ps) clauses run (λ vs. fm→mono 𝓤 (run vs) (fm vs))
+            (walked 𝓤 H A ended stayed clauses run (λ κs. (slice-vals, spells 1 κs ps)) (λ κs. (shr-slice-tells (named 0) (κs .0) R, tell 1 κs ps))
             (λ κs qs bounds a g are. needs 𝓤 (t .asks κs (now (a .0)) (a .1)) _ (λ asked. looks κs (qs .0) (a .0 .ptr .0) (a .0 .ptr .1) (a .0 .name) (a .0 .now) (a .1) vals tells copies (are .0 .0 .1) (are .1) asked sees)))
 
         -- ---- the share is lent for a lifetime ν of the call
-        module _ (met : Meets 𝓤 H A (ended .signature) run (closing 𝓤 H A ended clauses)) (q : Share) (b o : ℕ) (ys : List (R .Denot)) (room : Room R (length ys)) (a : (κs : Lfts 1) → Rest κs ps) (good : (κs : Lfts 1) → Good κs ps (a κs)) (asked : (κs : Lfts 1) → t .asks κs ys (a κs))
+        module _ (met : Meets 𝓤 H A (ended .signature) run (closing 𝓤 H A ended clauses)) (q : Share) (b o : ℕ) (ys : List (R .Denot)) (room : Room R (length ys)) (a : (κs : Lfts 1) → Rest 1 κs ps) (good : (κs : Lfts 1) → Good 1 κs ps (a κs)) (asked : (κs : Lfts 1) → t .asks κs ys (a κs))
             (Q : t .result .type .Denot → Type 0) (so : (κs : Lfts 1) (r : t .result .type .Denot) → t .promises κs ys (a κs) r → Q r) where
           abbrev Got : Val → SProp 𝓤
           Got v = H .⇛ (ex 𝓤 (λ (r : t .result .type .Denot). guard 𝓤 (Is (t .result .type) r (v ∷ []) × Q r) (sem 𝓤 H A (row R q ys b o))))
@@ -144,11 +144,11 @@ module _ {R : RattleType} (t : Look R) where
             s′ = sliceVal (b, o) (length ys)
 
             abbrev y : tripleOf 𝓤 H A (ended .signature) (closing 𝓤 H A ended clauses) .Ghost
-            y = ((κs, (fullShare, tt), tt, (x′, a κs), (s′ ∷ [], spelt κs ps (a κs))), tt)
+            y = ((κs, (fullShare, tt), tt, (x′, a κs), (s′ ∷ [], spelt 1 κs ps (a κs))), tt)
 
             goes : ent 𝓤 (⋆ 𝓤 H A (‵ (ShrSlice (named 0) (ν ∷ []) R .own x′ (s′ ∷ [])) ∷ ‵ (flft (ν ∷ []) fullShare) ∷ [])) (tripleOf 𝓤 H A (ended .signature) (closing 𝓤 H A ended clauses) .pre y)
             goes = qed W (‵ (ShrSlice (named 0) (ν ∷ []) R .own x′ (s′ ∷ [])) ∷ ‵ (flft (ν ∷ []) fullShare) ∷ []) ∵ says ! (asked κs) $ nothing ! $ move ! (2 ∷ 0 ∷ []) $ join ! $ frame ! $
-                use0 W (‵ (owns (kinds κs ps) (a κs) (spelt κs ps (a κs)))) (owns-make 𝓤 H A (kinds κs ps) (Ises (kinds κs ps)) (make 𝓤 H A W κs ps) (a κs) (spelt κs ps (a κs)) (good κs)) $ move ! (1 ∷ 0 ∷ []) $ fjoin ! $ done !
+                use0 W (‵ (owns (kinds 1 κs ps) (a κs) (spelt 1 κs ps (a κs)))) (owns-make 𝓤 H A (kinds 1 κs ps) (Ises (kinds 1 κs ps)) (make 𝓤 H A W 1 κs ps) (a κs) (spelt 1 κs ps (a κs)) (good κs)) $ move ! (1 ∷ 0 ∷ []) $ fjoin ! $ done !
 
             back : (v : Val) → ent 𝓤 (⋆ 𝓤 H A (raw (tripleOf 𝓤 H A (ended .signature) (closing 𝓤 H A ended clauses) .post y v) ∷ ‵ (flent (ν ∷ []) part) ∷ [])) (Got v)
             back v =
@@ -160,7 +160,7 @@ module _ {R : RattleType} (t : Look R) where
                 drop ! $ split ! $ lft-end ! tt $ move ! (0 ∷ 2 ∷ []) $ lent-back ! tt $ fsplit ! $ drop ! $ at-once ! $
                 show ! (λ (r : t .result .type .Denot). guard 𝓤 (Is (t .result .type) r (v ∷ []) × Q r) (sem 𝓤 H A (row R q ys b o))) r $ check ! (is, so κs r e) $ keep ! (0 ∷ []) $ done !))))
 
-          pub lowers : (vs : List Val) → ((κs : Lfts 1) → flatly κs ps (a κs) ≡ vs) → ent 𝓤 (sem 𝓤 H A (row R q ys b o)) (run (sliceVal (b, o) (length ys) ∷ vs) Got)
+          pub lowers : (vs : List Val) → ((κs : Lfts 1) → flatly 1 κs ps (a κs) ≡ vs) → ent 𝓤 (sem 𝓤 H A (row R q ys b o)) (run (sliceVal (b, o) (length ys) ∷ vs) Got)
           lowers vs same =
               qed W (‵ (row R q ys b o) ∷ []) ∵ suffices ! (H .⇛ (run (sliceVal (b, o) (length ys) ∷ vs) Got)) (soaks (sliceVal (b, o) (length ys) ∷ vs) Got) $ updating ! $
               lft-new ! tt (λ ν. move ! (1 ∷ []) $ feqI ! ℕ (length ys) (length ys) refl $ fjoin ! $

@@ -48,14 +48,14 @@ use Rattle.walks.proofs.Plain.{Plain, none, slots, kept, stays, kinds, 
 pub record Task (R : RattleType) : Type 2 where
   pub params : List Plain
   pub result : Plain
-  pub asks : (κs : Lfts 1) → List (R .Denot) → Rest κs params → Type 0
-  pub promises : (κs : Lfts 1) → List (R .Denot) → Rest κs params → result .type .Denot → List (R .Denot) → Type 0
+  pub asks : (κs : Lfts 1) → List (R .Denot) → Rest 1 κs params → Type 0
+  pub promises : (κs : Lfts 1) → List (R .Denot) → Rest 1 κs params → result .type .Denot → List (R .Denot) → Type 0
 
 -- of a function that returns (): what the list becomes
 pub record Change (R : RattleType) : Type 2 where
   pub params : List Plain
-  pub asks : (κs : Lfts 1) → List (R .Denot) → Rest κs params → Type 0
-  pub becomes : (κs : Lfts 1) → List (R .Denot) → Rest κs params → List (R .Denot)
+  pub asks : (κs : Lfts 1) → List (R .Denot) → Rest 1 κs params → Type 0
+  pub becomes : (κs : Lfts 1) → List (R .Denot) → Rest 1 κs params → List (R .Denot)
 
 abbrev pub task : {R : RattleType} → Change R → Task R
 task c = record { params = c .params; result = none; asks = c .asks; promises = λ κs ys a r zs. zs ≡ c .becomes κs ys a }
@@ -65,10 +65,10 @@ module _ {R : RattleType} (t : Task R) where
   ps = t .params
 
   abbrev pub ended : Ended
-  ended = record { signature = record { lifetimes = 1; outlives = []; params = mutSlice 0 tt (λ _. R) ∷ slots ps; result = plain (λ _. t .result .type) }; kept = (yes, kept ps) }
+  ended = record { signature = record { lifetimes = 1; outlives = []; params = mutSlice 0 tt (λ _. R) ∷ slots 1 ps; result = plain (λ _. t .result .type) }; kept = (yes, kept 1 ps) }
 
   abbrev stayed : Stays (ended .signature .params) (ended .kept)
-  stayed = (stay-slice (0 ∷ []) tt (plain (λ _. R)), stays ps)
+  stayed = (stay-slice (0 ∷ []) tt (plain (λ _. R)), stays 1 ps)
 
   module _ {M : Type 1} (𝓤 : URA M) (H : Heap 𝓤) (A : Atoms 𝓤) where
     abbrev pub clauses : Clauses 𝓤 ended
@@ -79,27 +79,27 @@ module _ {R : RattleType} (t : Task R) where
     Knows run = Enters 𝓤 H run × Meets 𝓤 H A (ended .signature) run (closing 𝓤 H A ended clauses)
 
     -- what is known of the list at exit and of the result, whose machine value is v
-    abbrev pub Known : (κs : Lfts 1) → List (R .Denot) → Rest κs ps → Val → t .result .type .Denot → List (R .Denot) → Type 0
+    abbrev pub Known : (κs : Lfts 1) → List (R .Denot) → Rest 1 κs ps → Val → t .result .type .Denot → List (R .Denot) → Type 0
     Known κs ys a v r zs = Is (t .result .type) r (v ∷ []) × (length zs ≡ length ys) × t .promises κs ys a r zs
 
-    abbrev pub Left : (κs : Lfts 1) → ℕ → ℕ → List (R .Denot) → Rest κs ps → Val → SProp 𝓤
+    abbrev pub Left : (κs : Lfts 1) → ℕ → ℕ → List (R .Denot) → Rest 1 κs ps → Val → SProp 𝓤
     Left κs b o ys a v = H .⇛ (ex 𝓤 (λ (r : t .result .type .Denot). ex 𝓤 (λ (zs : List (R .Denot)). guard 𝓤 (Known κs ys a v r zs) (sem 𝓤 H A (row R fullShare zs b o)))))
 
     abbrev pub Does : Fun 𝓤 → Type 1
-    Does run = (κs : Lfts 1) (b o : ℕ) (ys : List (R .Denot)) (a : Rest κs ps) → Room R (length ys) → Good κs ps a → t .asks κs ys a
-        → ent 𝓤 (sem 𝓤 H A (row R fullShare ys b o)) (run (sliceVal (b, o) (length ys) ∷ flatly κs ps a) (Left κs b o ys a))
+    Does run = (κs : Lfts 1) (b o : ℕ) (ys : List (R .Denot)) (a : Rest 1 κs ps) → Room R (length ys) → Good 1 κs ps a → t .asks κs ys a
+        → ent 𝓤 (sem 𝓤 H A (row R fullShare ys b o)) (run (sliceVal (b, o) (length ys) ∷ flatly 1 κs ps a) (Left κs b o ys a))
 
     module _ (W : Given 𝓤 H A) where
       -- how a walk ends
-      pub leaves : (κs : Lfts 1) (b o : ℕ) (ys : List (R .Denot)) (a : Rest κs ps) (v : Val) (r : t .result .type .Denot) (zs : List (R .Denot)) → Known κs ys a v r zs → ent 𝓤 (sem 𝓤 H A (row R fullShare zs b o)) (Left κs b o ys a v)
+      pub leaves : (κs : Lfts 1) (b o : ℕ) (ys : List (R .Denot)) (a : Rest 1 κs ps) (v : Val) (r : t .result .type .Denot) (zs : List (R .Denot)) → Known κs ys a v r zs → ent 𝓤 (sem 𝓤 H A (row R fullShare zs b o)) (Left κs b o ys a v)
       leaves κs b o ys a v r zs k = qed W (‵ (row R fullShare zs b o) ∷ []) ∵ updating ! $ at-once ! $ show ! (λ (s : t .result .type .Denot). ex 𝓤 (λ (ws : List (R .Denot)). guard 𝓤 (Known κs ys a v s ws) (sem 𝓤 H A (row R fullShare ws b o)))) r $
           show ! (λ (ws : List (R .Denot)). guard 𝓤 (Known κs ys a v r ws) (sem 𝓤 H A (row R fullShare ws b o))) zs $ check ! k $ done !
 
-      still : (κs : Lfts 1) (a : Rest κs ps) → ent 𝓤 (sem 𝓤 H A (owns (kinds κs ps) a (spelt κs ps a))) (sem 𝓤 H A (hasOf κs (slots ps) (kept ps) (stays ps) a (last κs ps a) (spelt κs ps a)))
-      still κs a = subst (λ (P : Fml). ent 𝓤 (sem 𝓤 H A (owns (kinds κs ps) a (spelt κs ps a))) (sem 𝓤 H A P)) (had κs ps a (spelt κs ps a)) (id⊢ 𝓤 _)
+      still : (κs : Lfts 1) (a : Rest 1 κs ps) → ent 𝓤 (sem 𝓤 H A (owns (kinds 1 κs ps) a (spelt 1 κs ps a))) (sem 𝓤 H A (hasOf κs (slots 1 ps) (kept 1 ps) (stays 1 ps) a (last 1 κs ps a) (spelt 1 κs ps a)))
+      still κs a = subst (λ (P : Fml). ent 𝓤 (sem 𝓤 H A (owns (kinds 1 κs ps) a (spelt 1 κs ps a))) (sem 𝓤 H A P)) (had 1 κs ps a (spelt 1 κs ps a)) (id⊢ 𝓤 _)
 
       module _ (run : Fun 𝓤) (fm : FmF 𝓤 run) (soaks : Enters 𝓤 H run) where
-        module _ (κs : Lfts 1) (q : Share) (b o : ℕ) (γ : GName) (ys : List (R .Denot)) (a : Rest κs ps) where
+        module _ (κs : Lfts 1) (q : Share) (b o : ℕ) (γ : GName) (ys : List (R .Denot)) (a : Rest 1 κs ps) where
           abbrev κ : Lft
           κ = κs .0
 
@@ -110,11 +110,11 @@ module _ {R : RattleType} (t : Task R) where
           s = sliceVal (b, o) (length ys)
 
           abbrev Post : Val → SProp 𝓤
-          Post = walkOf 𝓤 H A ended stayed clauses .post ((κs, (q, tt), tt, (x ys, a), (s ∷ [], spelt κs ps a)), tt)
+          Post = walkOf 𝓤 H A ended stayed clauses .post ((κs, (q, tt), tt, (x ys, a), (s ∷ [], spelt 1 κs ps a)), tt)
 
           -- the open borrow, and what the other parameters own
           abbrev Kept : List (Item 𝓤)
-          Kept = ‵ (fobor κ q (Held R (length ys) b o γ)) ∷ ‵ (fobs γ (codedHoleys R .code (heres R ys))) ∷ ‵ (fauth γ (codedHoleys R .code (heres R ys))) ∷ ‵ (owns (kinds κs ps) a (spelt κs ps a)) ∷ []
+          Kept = ‵ (fobor κ q (Held R (length ys) b o γ)) ∷ ‵ (fobs γ (codedHoleys R .code (heres R ys))) ∷ ‵ (fauth γ (codedHoleys R .code (heres R ys))) ∷ ‵ (owns (kinds 1 κs ps) a (spelt 1 κs ps a)) ∷ []
 
           closes : Room R (length ys) → (v : Val) → ent 𝓤 (sep 𝓤 (Left κs b o ys a v) (⋆ 𝓤 H A Kept)) (Post v)
           closes room v =
@@ -122,27 +122,27 @@ module _ {R : RattleType} (t : Task R) where
               use1 W (later (some (λ (r : t .result .type .Denot). some (λ (zs : List (R .Denot)). given (Known κs ys a v r zs) (‵ (row R fullShare zs b o)))))) (id⊢ 𝓤 _) $ await ! tt $ pick ! (λ r. pick ! (λ zs. learn ! (λ k.
               closes-slice ! tt R ys zs (k .1) b o $ at-once ! $
               -- [obs; the borrow; the token; what the others own]
-              suffices ! _ (ends-at 𝓤 H A ended stayed clauses W ((κs, (q, tt), tt, (x ys, a), (s ∷ [], spelt κs ps a)), tt) v r (zs, last κs ps a) (k .1, fit κs ps a)) $ says ! (k .2) $
+              suffices ! _ (ends-at 𝓤 H A ended stayed clauses W ((κs, (q, tt), tt, (x ys, a), (s ∷ [], spelt 1 κs ps a)), tt) v r (zs, last 1 κs ps a) (k .1, fit 1 κs ps a)) $ says ! (k .2) $
               nothing ! $ move ! (3 ∷ 0 ∷ []) $ join ! $ frame ! $ fjoin ! $ pureI ! (at-slice R (x zs) (s ∷ [])) (tt, (tt, tt)) (ap (λ (m : ℕ). sliceVal (b, o) m ∷ []) (sym (k .1)), subst (Room R) (sym (k .1)) room) $ fjoin ! $
-              move ! (1 ∷ []) $ use1 W (‵ (hasOf κs (slots ps) (kept ps) (stays ps) a (last κs ps a) (spelt κs ps a))) (still κs a) $ move ! (1 ∷ 0 ∷ []) $ fjoin ! $ frame ! $ owned ! (t .result .type) (Is (t .result .type)) (t .result .makes M 𝓤 H A W) r _ (k .0) $ done !)))
+              move ! (1 ∷ []) $ use1 W (‵ (hasOf κs (slots 1 ps) (kept 1 ps) (stays 1 ps) a (last 1 κs ps a) (spelt 1 κs ps a))) (still κs a) $ move ! (1 ∷ 0 ∷ []) $ fjoin ! $ frame ! $ owned ! (t .result .type) (Is (t .result .type)) (t .result .makes M 𝓤 H A W) r _ (k .0) $ done !)))
 
-          opens : Room R (length ys) → Good κs ps a → t .asks κs ys a → Does run
-              → ent 𝓤 (onEntry 𝓤 H A (ended .signature) κs (q, tt) (x ys, a) (s ∷ [], spelt κs ps a)) (run (s ∷ flatly κs ps a) Post)
+          opens : Room R (length ys) → Good 1 κs ps a → t .asks κs ys a → Does run
+              → ent 𝓤 (onEntry 𝓤 H A (ended .signature) κs (q, tt) (x ys, a) (s ∷ [], spelt 1 κs ps a)) (run (s ∷ flatly 1 κs ps a) Post)
           opens room good asked does =
-              qed W ((‵ (flft κ q) ⊛ ‵ ftrue) ∷ ‵ (owns (MutSlice (named 0) κ R ∷ kinds κs ps) (x ys, a) (s ∷ [], spelt κs ps a)) ∷ []) ∵ suffices ! (H .⇛ (run (s ∷ flatly κs ps a) Post)) (soaks (s ∷ flatly κs ps a) Post) $ updating ! $
+              qed W ((‵ (flft κ q) ⊛ ‵ ftrue) ∷ ‵ (owns (MutSlice (named 0) κ R ∷ kinds 1 κs ps) (x ys, a) (s ∷ [], spelt 1 κs ps a)) ∷ []) ∵ suffices ! (H .⇛ (run (s ∷ flatly 1 κs ps a) Post)) (soaks (s ∷ flatly 1 κs ps a) Post) $ updating ! $
               move ! (1 ∷ []) $ fsplit ! $ fsplit ! $ move ! (1 ∷ []) $ fsplit ! $ move ! (4 ∷ []) $ split ! $ move ! (2 ∷ 3 ∷ 0 ∷ []) $ opens-slice ! tt R ys b o $ at-once ! $
               -- [the row; the open borrow; obs; auth; true; the slice's fact; what the others own]
               keep ! (0 ∷ 1 ∷ 2 ∷ 3 ∷ 6 ∷ []) $ by !
-              (via 𝓤 (sep 𝓤 (run (s ∷ flatly κs ps a) (Left κs b o ys a)) (⋆ 𝓤 H A Kept)) (monoL 𝓤 (⋆ 𝓤 H A Kept) (does κs b o ys a room good asked))
-              (fm (s ∷ flatly κs ps a) (Left κs b o ys a) Post (⋆ 𝓤 H A Kept) (closes room)))
+              (via 𝓤 (sep 𝓤 (run (s ∷ flatly 1 κs ps a) (Left κs b o ys a)) (⋆ 𝓤 H A Kept)) (monoL 𝓤 (⋆ 𝓤 H A Kept) (does κs b o ys a room good asked))
+              (fm (s ∷ flatly 1 κs ps a) (Left κs b o ys a) Post (⋆ 𝓤 H A Kept) (closes room)))
 
         pub lifts : Does run → Meets 𝓤 H A (ended .signature) run (closing 𝓤 H A ended clauses)
-        lifts does = walk-meets 𝓤 H A ended stayed W (goes-slice 𝓤 H A W 1 0 tt (plain (λ _. R)), go 𝓤 H A W ps) clauses run (λ vs. fm→mono 𝓤 (run vs) (fm vs))
-            (walked 𝓤 H A ended stayed clauses run (λ κs. (slice-vals, spells κs ps)) (λ κs. (mut-slice-tells (named 0) (κs .0) R, tell κs ps))
+        lifts does = walk-meets 𝓤 H A ended stayed W (goes-slice 𝓤 H A W 1 0 tt (plain (λ _. R)), go 𝓤 H A W 1 ps) clauses run (λ vs. fm→mono 𝓤 (run vs) (fm vs))
+            (walked 𝓤 H A ended stayed clauses run (λ κs. (slice-vals, spells 1 κs ps)) (λ κs. (mut-slice-tells (named 0) (κs .0) R, tell 1 κs ps))
             (λ κs qs bounds a g are. needs 𝓤 (t .asks κs (now (a .0)) (a .1)) _ (λ asked. opens κs (qs .0) (a .0 .ptr .0) (a .0 .ptr .1) (a .0 .name) (a .0 .now) (a .1) (are .0 .0 .1) (are .1) asked does)))
 
         -- ---- the row is lent for a lifetime ν of the call, under the name γ
-        module _ (met : Meets 𝓤 H A (ended .signature) run (closing 𝓤 H A ended clauses)) (b o : ℕ) (ys : List (R .Denot)) (room : Room R (length ys)) (a : (κs : Lfts 1) → Rest κs ps) (good : (κs : Lfts 1) → Good κs ps (a κs)) (asked : (κs : Lfts 1) → t .asks κs ys (a κs))
+        module _ (met : Meets 𝓤 H A (ended .signature) run (closing 𝓤 H A ended clauses)) (b o : ℕ) (ys : List (R .Denot)) (room : Room R (length ys)) (a : (κs : Lfts 1) → Rest 1 κs ps) (good : (κs : Lfts 1) → Good 1 κs ps (a κs)) (asked : (κs : Lfts 1) → t .asks κs ys (a κs))
             (Q : t .result .type .Denot → List (R .Denot) → Type 0) (so : (κs : Lfts 1) (r : t .result .type .Denot) (zs : List (R .Denot)) → t .promises κs ys (a κs) r zs → Q r zs) where
           abbrev Got : Val → SProp 𝓤
           Got v = H .⇛ (ex 𝓤 (λ (r : t .result .type .Denot). ex 𝓤 (λ (zs : List (R .Denot)). guard 𝓤 (Is (t .result .type) r (v ∷ []) × (length zs ≡ length ys) × Q r zs) (sem 𝓤 H A (row R fullShare zs b o)))))
@@ -158,11 +158,11 @@ module _ {R : RattleType} (t : Task R) where
             s′ = sliceVal (b, o) (length ys)
 
             abbrev y : tripleOf 𝓤 H A (ended .signature) (closing 𝓤 H A ended clauses) .Ghost
-            y = ((κs, (fullShare, tt), tt, (x′, a κs), (s′ ∷ [], spelt κs ps (a κs))), tt)
+            y = ((κs, (fullShare, tt), tt, (x′, a κs), (s′ ∷ [], spelt 1 κs ps (a κs))), tt)
 
             goes : ent 𝓤 (⋆ 𝓤 H A (‵ (MutSlice (named 0) (ν ∷ []) R .own x′ (s′ ∷ [])) ∷ ‵ (flft (ν ∷ []) fullShare) ∷ [])) (tripleOf 𝓤 H A (ended .signature) (closing 𝓤 H A ended clauses) .pre y)
             goes = qed W (‵ (MutSlice (named 0) (ν ∷ []) R .own x′ (s′ ∷ [])) ∷ ‵ (flft (ν ∷ []) fullShare) ∷ []) ∵ says ! (asked κs) $ nothing ! $ move ! (2 ∷ 0 ∷ []) $ join ! $ frame ! $
-                use0 W (‵ (owns (kinds κs ps) (a κs) (spelt κs ps (a κs)))) (owns-make 𝓤 H A (kinds κs ps) (Ises (kinds κs ps)) (make 𝓤 H A W κs ps) (a κs) (spelt κs ps (a κs)) (good κs)) $ move ! (1 ∷ 0 ∷ []) $ fjoin ! $ done !
+                use0 W (‵ (owns (kinds 1 κs ps) (a κs) (spelt 1 κs ps (a κs)))) (owns-make 𝓤 H A (kinds 1 κs ps) (Ises (kinds 1 κs ps)) (make 𝓤 H A W 1 κs ps) (a κs) (spelt 1 κs ps (a κs)) (good κs)) $ move ! (1 ∷ 0 ∷ []) $ fjoin ! $ done !
 
             back : (v : Val) → ent 𝓤 (⋆ 𝓤 H A (raw (tripleOf 𝓤 H A (ended .signature) (closing 𝓤 H A ended clauses) .post y v) ∷ ‵ (flent (ν ∷ []) (Held R (length ys) b o γ)) ∷ [])) (Got v)
             back v =
@@ -176,7 +176,7 @@ module _ {R : RattleType} (t : Task R) where
                 show ! (λ (r : t .result .type .Denot). ex 𝓤 (λ (zs : List (R .Denot)). guard 𝓤 (Is (t .result .type) r (v ∷ []) × (length zs ≡ length ys) × Q r zs) (sem 𝓤 H A (row R fullShare zs b o)))) r $
                 show ! (λ (zs : List (R .Denot)). guard 𝓤 (Is (t .result .type) r (v ∷ []) × (length zs ≡ length ys) × Q r zs) (sem 𝓤 H A (row R fullShare zs b o))) (ws .0) $ check ! (is, l, so κs r (ws .0) e) $ keep ! (0 ∷ []) $ done !)))))
 
-          pub lowers : (vs : List Val) → ((κs : Lfts 1) → flatly κs ps (a κs) ≡ vs) → ent 𝓤 (sem 𝓤 H A (row R fullShare ys b o)) (run (sliceVal (b, o) (length ys) ∷ vs) Got)
+          pub lowers : (vs : List Val) → ((κs : Lfts 1) → flatly 1 κs ps (a κs) ≡ vs) → ent 𝓤 (sem 𝓤 H A (row R fullShare ys b o)) (run (sliceVal (b, o) (length ys) ∷ vs) Got)
           lowers vs same =
               qed W (‵ (row R fullShare ys b o) ∷ []) ∵ suffices ! (H .⇛ (run (sliceVal (b, o) (length ys) ∷ vs) Got)) (soaks (sliceVal (b, o) (length ys) ∷ vs) Got) $ updating ! $
               lft-new ! tt (λ ν. move ! (1 ∷ []) $ use1 W (‵ (cells (mem R) ys b o)) (whole-in 𝓤 H A W R ys b o) $

@@ -24,22 +24,15 @@ use denote.Triple.Statement.{FmF}
 use denote.Triple.Table.{cited}
 use denote.Triple.End.{all}
 use denote.Triple.Clauses.{Ended, Clauses, closing, lasts, Lasts}
+use Rattle.walks.proofs.Plain as Plains
 use Rattle.walks.proofs.Plain.{Plain}
 
+-- of a signature with no lifetime
 abbrev slots : List Plain → List (Slot 0)
-slots [] = []
-slots (p ∷ ps) = plain (λ _. p .type) ∷ slots ps
+slots = Plains.slots 0
 
 abbrev pub kinds : List Plain → List RattleType
-kinds ps = typesAt (slots ps) tt
-
-abbrev pub spells : (ps : List Plain) → Spells (kinds ps)
-spells [] = tt
-spells (p ∷ ps) = (p .vals, spells ps)
-
-make : {M : Type 1} (𝓤 : URA M) (H : Heap 𝓤) (A : Atoms 𝓤) → Given 𝓤 H A → (ps : List Plain) → Makess 𝓤 H A (kinds ps) (Ises (kinds ps))
-make 𝓤 H A W [] = tt
-make {M} 𝓤 H A W (p ∷ ps) = (p .makes M 𝓤 H A W, make 𝓤 H A W ps)
+kinds = Plains.kinds 0 tt
 
 pub record Value : Type 2 where
   pub params : List Plain
@@ -48,10 +41,10 @@ pub record Value : Type 2 where
 
 module _ (t : Value) where
   abbrev pub ended : Ended
-  ended = record { signature = record { lifetimes = 0; outlives = []; params = slots (t .params); result = plain (λ _. t .result .type) }; kept = all yes (slots (t .params)) }
+  ended = record { signature = record { lifetimes = 0; outlives = []; params = slots (t .params); result = plain (λ _. t .result .type) }; kept = Plains.kept 0 (t .params) }
 
   abbrev pub spelt : Denots (kinds (t .params)) → Valss (kinds (t .params))
-  spelt a = valss (kinds (t .params)) (spells (t .params)) a
+  spelt a = Plains.spelt 0 tt (t .params) a
 
   module _ {M : Type 1} (𝓤 : URA M) (H : Heap 𝓤) (A : Atoms 𝓤) where
     abbrev pub clauses : Clauses 𝓤 ended
@@ -69,7 +62,7 @@ module _ (t : Value) where
       Gives v = H .⇛ (guard 𝓤 (Is (t .result .type) (t .is a) (v ∷ [])) P)
 
       goes : ent 𝓤 P (sep 𝓤 (tripleOf 𝓤 H A (ended .signature) (closing 𝓤 H A ended clauses) .pre y) P)
-      goes = qed W (raw P ∷ []) ∵ use0 W (raw (emp 𝓤)) (id⊢ 𝓤 _) $ use0 W (‵ (owns (kinds (t .params)) a (spelt a))) (owns-make 𝓤 H A (kinds (t .params)) (Ises (kinds (t .params))) (make 𝓤 H A W (t .params)) a (spelt a) good) $ use0 W (raw (emp 𝓤)) (id⊢ 𝓤 _) $
+      goes = qed W (raw P ∷ []) ∵ use0 W (raw (emp 𝓤)) (id⊢ 𝓤 _) $ use0 W (‵ (owns (kinds (t .params)) a (spelt a))) (owns-make 𝓤 H A (kinds (t .params)) (Ises (kinds (t .params))) (Plains.make 𝓤 H A W 0 tt (t .params)) a (spelt a) good) $ use0 W (raw (emp 𝓤)) (id⊢ 𝓤 _) $
           join ! $ move ! (0 ∷ 1 ∷ []) $ join ! $ done !
 
       back : (v : Val) → ent 𝓤 (sep 𝓤 (tripleOf 𝓤 H A (ended .signature) (closing 𝓤 H A ended clauses) .post y v) P) (Gives v)
