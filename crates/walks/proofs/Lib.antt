@@ -5,6 +5,7 @@ pub mod Looks
 pub mod Values
 pub mod Locals
 pub mod Known
+pub mod Arrays
 pub mod Calls
 pub mod Elements
 pub mod Walk
