@@ -1,0 +1,218 @@
+/* Ulyptesh: the musical key of a track. Link with libulyptesh.a, on a 64-bit machine.
+
+   The library allocates nothing, keeps no pointer and has no state. A slice is a pointer and a count of entries. A
+   slice that is written to overlaps no other. "From the front" means: entry 0 first, and all entries behind those that
+   are written stay as they were.
+
+   An answer of more than 16 bytes is written behind the call's first pointer, which the call also returns.
+
+   A key's number is its tonic (0 for C to 11 for B) where it is major, and 12 + tonic where it is minor. */
+#ifndef ULYPTESH_H
+#define ULYPTESH_H
+
+#include <stddef.h>
+#include <stdint.h>
+
+#ifdef __cplusplus
+extern "C" {
+#endif
+
+/* Numbers in a chroma, from C upward. */
+#define ULYPTESH_PITCH_CLASSES 12
+/* Keys, and so scores of a chroma. */
+#define ULYPTESH_KEYS 24
+/* The number of a key that is missing. */
+#define ULYPTESH_NO_KEY 24
+/* Bytes of the longest key name, "C# major"; a name has no zero byte behind it. */
+#define ULYPTESH_LONGEST_NAME 8
+/* The longest track. */
+#define ULYPTESH_LONGEST_TRACK_SECONDS 14400
+/* The most segments on a card. */
+#define ULYPTESH_MOST_CARD_SEGMENTS 1023
+/* Bytes of a card with so many segments; at most 4,994. */
+#define ULYPTESH_CARD_BYTES(segments) ((49 + 39 * (size_t)(segments) + 7) / 8)
+
+/* Why a call refuses. The first of 1 to 8 that applies is answered. All but 9 and 10 write nothing but the answer. */
+typedef enum UlypteshRefusal {
+    /* not refused; a track that tells no key has this too, with key 24 */
+    ULYPTESH_DONE = 0,
+    /* the rate is above 192,000 */
+    ULYPTESH_RATE_TOO_HIGH = 1,
+    /* the frame size is above 65,536 or the hop size above 1,048,576 */
+    ULYPTESH_SIZE_TOO_LARGE = 2,
+    /* one of the five float settings is not finite */
+    ULYPTESH_SETTING_NOT_FINITE = 3,
+    /* there are more samples than 14,400 times the rate */
+    ULYPTESH_TRACK_TOO_LONG = 4,
+    /* analyse: the local hop is below half a second */
+    ULYPTESH_LOCAL_HOP_TOO_SHORT = 5,
+    /* the sheet's rate, notes or frame size are not the call's */
+    ULYPTESH_SHEET_OF_ANOTHER_CALL = 6,
+    /* the sheet is not well formed: see UlypteshSheetHead */
+    ULYPTESH_SHEET_NOT_WELL_FORMED = 7,
+    /* fewer rows or work numbers are lent than the track needs */
+    ULYPTESH_TOO_FEW_ROWS = 8,
+    /* a loud frame's energy or chroma is not finite; the loud frames before it stand in their rows */
+    ULYPTESH_FRAME_NOT_FINITE = 9,
+    /* analyse: a window's start did not grow by the hop; loud frames and the estimates so far stand in their rows */
+    ULYPTESH_WINDOW_STAYS = 10,
+    /* key name: a number above 23; card: a card rule is broken, or the segment slices are not equally long */
+    ULYPTESH_UNWRITABLE = 11,
+    /* fewer bytes are lent than the name or card has */
+    ULYPTESH_TOO_FEW_BYTES = 12,
+    /* scores, key: a chroma not of 12 numbers, or room for fewer than 24 scores */
+    ULYPTESH_WRONG_LENGTH = 18
+} UlypteshRefusal;
+
+/* What a call is asked. Nothing is analysed, without a refusal, where the rate or the hop size is 0, the frame size is
+   below 32 or above the samples, the lowest note is above the highest, or the local window or hop is not above 0; this
+   is judged after 3 and before 4. */
+typedef struct UlypteshSettings {
+    uint32_t rate; /* samples a second */
+    size_t frame_size; /* samples in a frame */
+    size_t hop_size; /* samples from the start of a frame to the next one's */
+    uint8_t minimum_midi_note, maximum_midi_note;
+    float local_window_seconds; /* a window's length */
+    float local_hop_seconds; /* from the start of a window to the next one's; at least 0.5 */
+    float alternate_coverage_threshold; /* the part of the track from which an alternate is named; 0: never */
+    float segment_confidence_threshold; /* the confidence from which a window of another key starts a segment */
+    float minimum_segment_seconds; /* a shorter segment is joined to a neighbour */
+} UlypteshSettings;
+
+/* What a table sheet was made for: the call's rate, notes and frame size. Row k of a sheet is for the lowest note plus
+   k. A sheet is well formed where its slices have the lengths and entries that are told at the calls, and has no more
+   rows of either kind than notes. examples/c/analyse.c makes one. */
+typedef struct UlypteshSheetHead {
+    uint32_t rate;
+    uint8_t minimum_midi_note, maximum_midi_note;
+    size_t frame_size;
+} UlypteshSheetHead;
+
+/* refusal: 0 or the number of a UlypteshRefusal, here and below. */
+typedef struct UlypteshScoresResult {
+    uint32_t refusal;
+} UlypteshScoresResult;
+
+/* The key of a chroma. Refused: key 24 and zeros. */
+typedef struct UlypteshKeyResult {
+    uint32_t refusal;
+    uint32_t key;
+    float best, second; /* the best score and the second */
+    float confidence; /* from 0 to 1 */
+} UlypteshKeyResult;
+
+/* length: how many bytes were written; 0 where the call is refused. */
+typedef struct UlypteshWritten {
+    uint32_t refusal;
+    size_t length;
+} UlypteshWritten;
+
+/* position: of the frame that refusal 9 is about, else 0. count: how many frame rows are written. */
+typedef struct UlypteshFramesResult {
+    uint32_t refusal;
+    uint64_t position;
+    uint64_t count;
+} UlypteshFramesResult;
+
+/* What is told of a track. Without a key (refused, or none to tell) the three keys are 24 and the floats 0. */
+typedef struct UlypteshAnalyseResult {
+    uint32_t refusal;
+    uint64_t position; /* of the frame that refusal 9 is about, else 0 */
+    uint32_t key, dsp_key; /* the key that is reported; the two are the same */
+    uint32_t alternate; /* another key that much of the track is in, or 24 */
+    float coverage; /* the part of the track that is in the alternate, or 0 */
+    float confidence; /* of the key, from 0 to 1 */
+    uint64_t frames, estimates, segments; /* how many rows of each kind are written */
+    float chroma[ULYPTESH_PITCH_CLASSES]; /* of the whole track */
+} UlypteshAnalyseResult;
+
+/* Writes the loud frames of a track. P, the frame positions, is (samples - frame size) / hop size, rounded down,
+   plus 1. */
+UlypteshFramesResult *ulyptesh_frames(
+    UlypteshFramesResult *answer, /* written whole */
+    UlypteshSettings settings,
+    UlypteshSheetHead head,
+    const float *samples, size_t sample_count, /* mono; at most 14,400 times the rate */
+    const float *window, size_t window_count, /* frame size; 0 to 1: the window of a frame */
+    const float *coefficients, size_t coefficient_count, /* Goertzel rows, at most a note each; -2 to 2 */
+    const float *weights, size_t weight_count, /* as many; finite and above 0 */
+    const uint32_t *lengths, size_t length_count, /* constant-Q rows, at most a note each; 4 to the rate */
+    const float *q_coefficients, size_t q_coefficient_count, /* as many as lengths; -2 to 2 */
+    const float *q_windows, size_t q_window_count, /* the sum of lengths; 0 to 1: the rows' windows, end to end */
+    double *centres, size_t centre_count, /* P; the loud frames' centres in seconds, from the front */
+    float (*values)[ULYPTESH_PITCH_CLASSES], size_t value_count, /* P; their chromas, from the front */
+    float *energies, size_t energy_count); /* P; their energies, from the front */
+
+/* Analyses a track. P and what is read are as above. W, the windows, is how many of the starts 0, hop, hop + hop and so
+   on (f64 sums) lie a window or more before the end; 1 where the duration is below window + hop. */
+UlypteshAnalyseResult *ulyptesh_analyse(
+    UlypteshAnalyseResult *answer, /* written whole */
+    UlypteshSettings settings,
+    UlypteshSheetHead head,
+    const float *samples, size_t sample_count,
+    const float *window, size_t window_count,
+    const float *coefficients, size_t coefficient_count,
+    const float *weights, size_t weight_count,
+    const uint32_t *lengths, size_t length_count,
+    const float *q_coefficients, size_t q_coefficient_count,
+    const float *q_windows, size_t q_window_count,
+    double *centres, size_t centre_count, /* P; the loud frames' centres in seconds, from the front */
+    float (*values)[ULYPTESH_PITCH_CLASSES], size_t value_count, /* P; their chromas, from the front */
+    float *energies, size_t energy_count, /* P; their energies, from the front */
+    float *work, size_t work_count, /* P; zeros from the front, one to a loud frame, unless 9 is answered */
+    double *middles, size_t middle_count, /* W; the estimates' middles in seconds, from the front */
+    uint8_t *numbers, size_t number_count, /* W; their keys, from the front */
+    float *certainties, size_t certainty_count, /* W; their confidences, from the front */
+    double *starts, size_t start_count, /* W; the segments' starts in seconds, then a zero for each one joined away */
+    double *ends, size_t end_count, /* W; their ends in seconds, then zeros likewise */
+    uint8_t *keys, size_t key_count, /* W; their keys, then zeros likewise */
+    float *confidences, size_t confidence_count); /* W; their confidences, then zeros likewise */
+
+/* Writes the scores of the 24 keys of a chroma. */
+UlypteshScoresResult ulyptesh_scores(
+    const float *chroma, size_t chroma_count, /* 12, exactly */
+    float *scores, size_t score_count); /* 24; the scores by key number, from the front */
+
+/* The key of a chroma. */
+UlypteshKeyResult *ulyptesh_key(
+    UlypteshKeyResult *answer, /* written whole */
+    const float *chroma, size_t chroma_count); /* 12, exactly */
+
+/* Writes the name of a key, as "C# minor". */
+UlypteshWritten ulyptesh_write_key_name(
+    uint32_t number, /* at most 23 */
+    uint8_t *bytes, size_t byte_count); /* the name's length, at most 8; the name, from the front */
+
+/* Writes the key card of an analysis; README.md has its fields and rules. Of the segments, lend what is written: the
+   answer's count of each slice. */
+UlypteshWritten ulyptesh_write_card(
+    uint32_t key, uint32_t dsp_key, uint32_t alternate, /* 24 for one that is missing */
+    float coverage, float confidence,
+    const double *starts, size_t start_count, /* in seconds, at most 1,023; each is the end before it, the first is 0 */
+    const double *ends, size_t end_count, /* as many */
+    const uint8_t *keys, size_t key_count, /* as many */
+    const float *confidences, size_t confidence_count, /* as many */
+    uint8_t *bytes, size_t byte_count); /* ULYPTESH_CARD_BYTES of the segments; the card, from the front */
+
+/* The library was compiled for structs of these sizes. */
+#if defined(__cplusplus) && __cplusplus >= 201103L
+#define ULYPTESH_IS_OF(type, bytes) static_assert(sizeof(type) == (bytes), #type " has another size in the library")
+#elif defined(__STDC_VERSION__) && __STDC_VERSION__ >= 201112L
+#define ULYPTESH_IS_OF(type, bytes) _Static_assert(sizeof(type) == (bytes), #type " has another size in the library")
+#endif
+#ifdef ULYPTESH_IS_OF
+ULYPTESH_IS_OF(UlypteshSettings, 48);
+ULYPTESH_IS_OF(UlypteshSheetHead, 16);
+ULYPTESH_IS_OF(UlypteshScoresResult, 4);
+ULYPTESH_IS_OF(UlypteshKeyResult, 20);
+ULYPTESH_IS_OF(UlypteshWritten, 16);
+ULYPTESH_IS_OF(UlypteshFramesResult, 24);
+ULYPTESH_IS_OF(UlypteshAnalyseResult, 112);
+#undef ULYPTESH_IS_OF
+#endif
+
+#ifdef __cplusplus
+}
+#endif
+
+#endif
