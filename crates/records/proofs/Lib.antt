@@ -1,5 +1,5 @@
 -- What the walks cite, and the theorems on shortening over records.
-mod Tasks
+pub mod Tasks
 mod Gap
 mod Places
 pub mod Shortened

@@ -1,5 +1,5 @@
 -- The calls of a walk over a row of elements, which stands at the head of the context before and after each.
---     calls-change     a function that changes the row (`Rows.antt`) and returns ()
+--     calls-task, calls-change     a function that changes the row (`Rows.antt`), and one that returns ()
 --     calls-look, calls-told   a function that looks at the row (`Looks.antt`).        calls-value     a function by value (`Values.antt`), whatever stands at the head
 -- It says nothing of the crate.
 use mathlib.Core.Path.{_≡_, refl, sym, _∙_, ap, subst}
@@ -24,23 +24,34 @@ use denote.Slice.{sliceVal, Room}
 use denote.Index.{row}
 use denote.Steps.{only}
 use denote.Triple.Call.{calls-from}
-use Rattle.walks.proofs.Plain.{Rest, Good, flatly, none}
+use Rattle.walks.proofs.Plain.{Rest, Good, flatly}
 use Rattle.walks.proofs.Rows as Rows
-use Rattle.walks.proofs.Rows.{Change, task}
+use Rattle.walks.proofs.Rows.{Task, Change, task}
 use Rattle.walks.proofs.Looks as Looks
 use Rattle.walks.proofs.Looks.{Look}
 use Rattle.walks.proofs.Values as Values
 use Rattle.walks.proofs.Values.{Value}
 
 module _ {M : Type 1} {𝓤 : URA M} {H : Heap 𝓤} {A : Atoms 𝓤} {K : Type 0} {W : Given 𝓤 H A} {Γ : List (Item 𝓤)} {E : Env 𝓤 H} {C : Calls 𝓤 H} {Λ : Loops 𝓤 H} {q : Post 𝓤 H} {f : Name} {xs : List Operand} {d : Place} {rest : Body} where
+  pub calls-task : K → FmC 𝓤 H (W .laws) C → {R : RattleType} (t : Task R) → Rows.Knows t 𝓤 H A (C f) → (val : t .result .type .Denot → Val) → ((r : t .result .type .Denot) → t .result .vals r ≡ val r ∷ [])
+      → (b o n : ℕ) (ys : List (R .Denot)) → length ys ≡ n → Room R n → (a : (κs : Lfts 1) → Rest 1 κs (t .params)) → ((κs : Lfts 1) → Good 1 κs (t .params) (a κs)) → ((κs : Lfts 1) → t .asks κs ys (a κs))
+      → (Q : t .result .type .Denot → List (R .Denot) → Type 0) → ((κs : Lfts 1) (r : t .result .type .Denot) (zs : List (R .Denot)) → t .promises κs ys (a κs) r zs → Q r zs) → (vs : List Val) → ((κs : Lfts 1) → flatly 1 κs (t .params) (a κs) ≡ vs)
+      → Opds K W (‵ (row R fullShare ys b o) ∷ Γ) E xs (sliceVal (b, o) n ∷ vs)
+      → ((r : t .result .type .Denot) (zs : List (R .Denot)) → Is (t .result .type) r (val r ∷ []) → length zs ≡ n → Q r zs → Seq K W (‵ (row R fullShare zs b o) ∷ Γ) (lands C Λ E d (val r) rest q))
+      → Seq K W (‵ (row R fullShare ys b o) ∷ Γ) (runs C Λ E (seq (call f xs d) rest) q)
+  calls-task t fm {R} c met val one b o n ys len room a good asked Q so vs same os k =
+      calls-from t fm (‵ (row R fullShare ys b o)) (sliceVal (b, o) (length ys) ∷ vs) _ (Rows.lowers c 𝓤 H A W (C f) (fm f) (met .0) (met .1) b o ys (subst (Room R) (sym len) room) a good asked Q so vs same) (subst (λ (m : ℕ). Opds K W (‵ (row R fullShare ys b o) ∷ Γ) E xs (sliceVal (b, o) m ∷ vs)) (sym len) os) (λ v.
+      use1 W (later (some (λ (r : c .result .type .Denot). some (λ (l : List (R .Denot)). given (Is (c .result .type) r (v ∷ []) × (length l ≡ length ys) × Q r l) (‵ (row R fullShare l b o)))))) (id⊢ 𝓤 _) $ await t tt $ pick t (λ r. pick t (λ l. learn t (λ known.
+      let told : v ∷ [] ≡ val r ∷ [] = c .result .tells r (v ∷ []) (known .0) ∙ one r in
+      subst (λ (u : Val). Seq K W (‵ (row R fullShare l b o) ∷ Γ) (lands C Λ E d u rest q)) (sym (ap only told)) (k r l (subst (Is (c .result .type) r) told (known .0)) (known .1 ∙ len) (known .2))))))
+
   pub calls-change : K → FmC 𝓤 H (W .laws) C → {R : RattleType} (t : Change R) → Rows.Knows (task t) 𝓤 H A (C f)
       → (b o n : ℕ) (ys : List (R .Denot)) → length ys ≡ n → Room R n → (a : (κs : Lfts 1) → Rest 1 κs (t .params)) → ((κs : Lfts 1) → Good 1 κs (t .params) (a κs)) → ((κs : Lfts 1) → t .asks κs ys (a κs))
       → (zs : List (R .Denot)) → ((κs : Lfts 1) → t .becomes κs ys (a κs) ≡ zs) → (vs : List Val) → ((κs : Lfts 1) → flatly 1 κs (t .params) (a κs) ≡ vs)
       → Opds K W (‵ (row R fullShare ys b o) ∷ Γ) E xs (sliceVal (b, o) n ∷ vs) → (length zs ≡ n → Seq K W (‵ (row R fullShare zs b o) ∷ Γ) (lands C Λ E d vunit rest q)) → Seq K W (‵ (row R fullShare ys b o) ∷ Γ) (runs C Λ E (seq (call f xs d) rest) q)
   calls-change t fm {R} c met b o n ys len room a good asked zs e vs same os k =
-      calls-from t fm (‵ (row R fullShare ys b o)) (sliceVal (b, o) (length ys) ∷ vs) _ (Rows.lowers (task c) 𝓤 H A W (C f) (fm f) (met .0) (met .1) b o ys (subst (Room R) (sym len) room) a good asked (λ _ l. l ≡ zs) (λ κs _ l p. subst (λ (z : List (R .Denot)). l ≡ z) (e κs) p) vs same) (subst (λ (m : ℕ). Opds K W (‵ (row R fullShare ys b o) ∷ Γ) E xs (sliceVal (b, o) m ∷ vs)) (sym len) os) (λ v.
-      use1 W (later (some (λ (r : Unit {0}). some (λ (l : List (R .Denot)). given (Is (none .type) r (v ∷ []) × (length l ≡ length ys) × (l ≡ zs)) (‵ (row R fullShare l b o)))))) (id⊢ 𝓤 _) $ await t tt $ pick t (λ r. pick t (λ l. learn t (λ known.
-      rewrite t 0 (λ (z : List (R .Denot)). ‵ (row R fullShare z b o)) (known .2) refl $ subst (λ (u : Val). Seq K W (‵ (row R fullShare zs b o) ∷ Γ) (lands C Λ E d u rest q)) (sym (ap only (known .0))) (k (ap length (sym (known .2)) ∙ known .1 ∙ len))))))
+      calls-task t fm (task c) met (λ _. vunit) (λ _. refl) b o n ys len room a good asked (λ _ l. l ≡ zs) (λ κs _ l p. subst (λ (z : List (R .Denot)). l ≡ z) (e κs) p) vs same os (λ _ l _ long p.
+      rewrite t 0 (λ (z : List (R .Denot)). ‵ (row R fullShare z b o)) p refl $ k (ap length (sym p) ∙ long))
 
   pub calls-look : K → FmC 𝓤 H (W .laws) C → {R : RattleType} (t : Look R) → Looks.Knows t 𝓤 H A (C f)
       → (s : Share) (b o n : ℕ) (ys : List (R .Denot)) → length ys ≡ n → Room R n → (a : (κs : Lfts 1) → Rest 1 κs (t .params)) → ((κs : Lfts 1) → Good 1 κs (t .params) (a κs)) → ((κs : Lfts 1) → t .asks κs ys (a κs))

@@ -13,8 +13,8 @@ pub use prog.Wp.{Heap, WpFn, Tables, Env}
 pub use ghost.Atoms.{Atoms}
 pub use contract.Running.{givenOf, tables, tablesOf}
 pub use types.Kit.{Given, ‵, _$_, _∵_, !, qed, rewrite, by, move, drop, Item, raw, given, use1, learn}
-pub use types.Run.{look, look-raw, init, stop, hop, fld, from, load, lit, of-opd, bin, assigns, params1, pass1, pass0, store-raw, unit-lit, forget, and-then, no-more}
-pub use types.Part.{whole, sub, look-in}
+pub use types.Run.{addr, look, look-raw, init, stop, hop, fld, from, load, lit, of-opd, bin, assigns, params1, pass1, pass0, store-raw, unit-lit, forget, and-then, no-more}
+pub use types.Part.{whole, sub, agg, look-in}
 pub use denote.Laws.{Is, shows}
 pub use denote.Slice.{sliceVal}
 pub use denote.Index.{row, place-is, elem-out, elem-back, elem-put}
@@ -25,5 +25,6 @@ pub use sound.WpLaws.{fmOf}
 pub use Rattle.walks.proofs.Elements.{calls-read, calls-write}
 pub use lib.Dec.{ltb→lt, nltb→le, leb→le, nleb→lt, lit<}
 pub use base.Logic.{guardI}
+pub use Rattle.walks.proofs.Arrays.{array-row, row-room}
 pub use Rattle.walks.proofs.Known.{Known-row, known, knowing}
-pub use Rattle.walks.proofs.Calls.{calls-change, calls-told, calls-value}
+pub use Rattle.walks.proofs.Calls.{calls-task, calls-change, calls-told, calls-value}

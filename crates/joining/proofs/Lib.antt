@@ -1,0 +1,2 @@
+-- What the walk cites.
+mod Tasks
