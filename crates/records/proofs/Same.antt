@@ -5,7 +5,7 @@ use Prim.Native.Nat.{ℕ, _-_, _≤_}
 use lib.ListN.{length, take, drop, replicate}
 use lib.Seq.{length-take-le, take-append-seam}
 use lib.Ieee.{Float}
-use Rattle.timeline.specs.Segments.{emptied, SegmentRows, segmentsIn, holdingSegments, filled}
+use Rattle.timeline.specs.Segments.{emptied, holdingSegments, filled}
 use Rattle.timeline.specs.Tiling.{Tiles, NoneShort}
 use Rattle.timeline.specs.declared.segment.Segment.{Segment}
 use Rattle.shortening.specs.Shorten.{shortenedOf, leftIn, settled}

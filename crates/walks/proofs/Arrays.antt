@@ -1,6 +1,5 @@
 -- A local array of elements, lent whole: it is a row while it is lent, and a local's room again at the end.
 --     array-row        a local that holds the elements xs is their row.        row-room     a row as long as the local is its room
--- It says nothing of the crate.
 use mathlib.Core.Path.{_≡_, refl}
 use Prim.Native.Nat.{ℕ}
 use mathlib.Core.List.{List, [], _∷_}

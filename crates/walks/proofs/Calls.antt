@@ -1,7 +1,6 @@
 -- The calls of a walk over a row of elements, which stands at the head of the context before and after each.
 --     calls-task, calls-change     a function that changes the row (`Rows.antt`), and one that returns ()
 --     calls-look, calls-told   a function that looks at the row (`Looks.antt`).        calls-value     a function by value (`Values.antt`), whatever stands at the head
--- It says nothing of the crate.
 use mathlib.Core.Path.{_≡_, refl, sym, _∙_, ap, subst}
 use Prim.Native.Nat.{ℕ}
 use mathlib.Core.List.{List, [], _∷_}

@@ -2,7 +2,6 @@
 --     Element          the type, the one machine value of an element, and what a read past the end of a list gives
 --     Read, Write      `fn read_at(s: &[T], i: usize) -> T` and `fn write_at(s: &mut [T], i: usize, x: T)`, as `Looks.antt` and `Rows.antt` state them
 --     calls-read       the row is as it was, and element i is what lands.        calls-write      element i of the row is x
--- It says nothing of the crate.
 use mathlib.Core.Path.{_≡_, refl, sym, ap, subst}
 use Prim.Native.Nat.{ℕ, _<_, _^_}
 use mathlib.Core.List.{List, [], _∷_, _++_}

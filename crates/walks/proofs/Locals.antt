@@ -5,7 +5,6 @@
 --     lands-in, lands-on   the result of a call is stored in a local that was room, that was full
 --     ifs, breaks      `if c { a }`, and then the rest, and a `break` in a.        whiles, tests, resets-last      a `while`: the loop, its test, and the last statement of a turn
 --     leaves           the function returns: each local is freed, whether it was written (full) or not (empty), and i is left to show the postcondition.        leaves-within    the same inside a loop or a branch
--- It says nothing of the crate.
 use Prim.Native.Nat.{ℕ, zero, _+_, _<_, _^_}
 use mathlib.Core.Path.{_≡_, refl, sym, subst}
 use mathlib.Core.Bool.{Bool, not}

@@ -2,7 +2,7 @@
 --     Look             the parameters after the slice, the result, what is asked, and what is promised of the result
 --     Sees run t       from a share q of the row ys, run leaves that share as it was, and returns r as promised
 --     lifts, lowers    a run that sees meets the contract, and a run that meets the contract sees
--- It says nothing of the crate. T is Copy.
+-- T is Copy.
 use mathlib.Core.Path.{_≡_, refl, subst}
 use Prim.Native.Nat.{ℕ}
 use mathlib.Core.List.{List, [], _∷_}

@@ -5,7 +5,7 @@
 --     Does run t       from the row ys, run leaves a row zs of the same length and returns r, as promised
 --     lifts            a run that does the task meets the contract: the borrow is opened before it, and closed after it
 --     lowers           a run that meets the contract does the task: the row is lent for a lifetime of the call, and comes back
--- It says nothing of the crate. Assumes `Given`, and of the run that it is monotone under a frame and takes in an update, as each entry of a table does.
+-- Assumes `Given`, and of the run that it is monotone under a frame and takes in an update, as each entry of a table does.
 use mathlib.Core.Path.{_≡_, sym, ap, subst}
 use Prim.Native.Nat.{ℕ}
 use mathlib.Core.List.{List, [], _∷_}

@@ -8,7 +8,7 @@ use denote.Floats.{float-lawful}
 use mir.Val.{Val}
 use denote.Array.{Array, arrayVal, array-typed}
 use denote.Struct.Laws as LL
-use Rattle.walks.proofs.Walk.{_≡_, refl, ap, ℕ, _<_, _≤_, _^_, arith, List, [], _∷_, length, URA, fullShare, w64, vint, vfloat, vptr, Heap, WpFn, Tables, Atoms, givenOf, tables, tablesOf, Given, ‵, raw, _$_, _∵_, !, qed, use1, move, look, init, lit, of-opd, agg, addr, stop, from, and-then, no-more, params1, pass1, pass0, fmOf, sliceVal, row, lit<, locals, var, vars2, vars3, sets, lands-in, leaves, full, array-row, row-room, calls-read, calls-task, calls-value}
+use Rattle.walks.proofs.Walk.{_≡_, refl, ap, ℕ, _<_, _^_, arith, List, [], _∷_, URA, fullShare, w64, vint, vfloat, Heap, WpFn, Tables, Atoms, givenOf, tables, tablesOf, Given, ‵, raw, _$_, _∵_, !, qed, use1, move, look, init, lit, agg, addr, stop, from, and-then, no-more, params1, pass1, pass0, fmOf, row, lit<, locals, var, vars3, sets, lands-in, leaves, full, array-row, row-room, calls-read, calls-task, calls-value}
 use Rattle.walks.proofs.Rows as Rows
 use Rattle.walks.proofs.Looks as Looks
 use Rattle.walks.proofs.Values as Values

@@ -1,6 +1,5 @@
 -- `records::first_short` sees what `Tasks.antt`'s `First-short` says: a walk of its MIR, with a loop that is left by `break`. What a turn finds is a law of `Places`.
 use mathlib.Core.Path.{subst}
-use mathlib.Core.Bool.{Bool, true, false, not}
 use lib.Ieee.{Float, binary64}
 use lib.Ieee.Bits.{is-false, is-true}
 use denote.Floats.{float-lawful}

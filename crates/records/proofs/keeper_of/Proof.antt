@@ -1,5 +1,5 @@
 -- `records::keeper_of` sees what `Tasks.antt`'s `Keeper-of` says: a walk of its MIR, of five calls. Their answers together are a law of `Places`.
-use Rattle.walks.proofs.Walk.{refl, ℕ, _-_, _<_, _^_, arith, [], _∷_, length, URA, w64, vint, Heap, WpFn, Tables, Atoms, givenOf, tables, tablesOf, Given, ‵, _$_, _∵_, !, qed, look, init, and-then, no-more, params1, pass1, pass0, fmOf, sliceVal, row, locals, var, vars2, lands-in, leaves, full, calls-read, calls-value}
+use Rattle.walks.proofs.Walk.{refl, ℕ, _-_, arith, [], _∷_, length, URA, w64, vint, Heap, WpFn, Tables, Atoms, givenOf, tables, tablesOf, Given, ‵, _$_, _∵_, !, qed, look, init, and-then, no-more, params1, pass1, pass0, fmOf, sliceVal, row, locals, var, vars2, lands-in, leaves, full, calls-read, calls-value}
 use Rattle.records.proofs.Tasks.{typed, R, element, vals, Record-at, Place-before, Place-after, Kept-place, Keeper-of}
 use denote.Struct.Laws as LL
 use Rattle.timeline.proofs.segment.Segment as T
