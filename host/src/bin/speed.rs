@@ -35,7 +35,7 @@ mod track_makers;
 use random::patterns;
 use std::hint::black_box;
 use std::time::Instant;
-use ulyptesh_host::probe::{median, probe_narrow, probe_square_root};
+use ulyptesh::probe::{median, probe_narrow, probe_square_root};
 
 const SEED: u64 = 44_100;
 const VALUES: usize = 1 << 14;
@@ -120,7 +120,7 @@ fn median_row() {
 fn chroma_rows() {
     use chromas::plain_kinds;
     use key_lime::classify_key_scores;
-    use ulyptesh_host::scores::scores;
+    use ulyptesh::scores::scores;
 
     const CHROMAS: usize = 1 << 9;
     header("ns for one chroma", "oracle");

@@ -4,9 +4,9 @@ mod analysed_track;
 
 use std::io::{self, Write};
 use std::process::ExitCode;
-use ulyptesh_host::card::{Analysis, NO_KEY, card};
-use ulyptesh_host::key_name::key_name;
-use ulyptesh_host::scores::key;
+use ulyptesh::card::{Analysis, NO_KEY, card};
+use ulyptesh::key_name::key_name;
+use ulyptesh::scores::key;
 
 const USAGE: &str = "usage: ulyptesh demo               the 24 keys, the key of a triad, a key card, a track
        ulyptesh key-name NUMBER    the name of one key

@@ -1,7 +1,7 @@
 //! Analyses as a card is written from them: such as it holds, and such as break one of its rules.
 use super::packed::LONGEST;
 use super::random::patterns;
-use ulyptesh_host::card::{Analysis, NO_KEY};
+use ulyptesh::card::{Analysis, NO_KEY};
 
 /// Most segments of a card.
 pub const MOST_SEGMENTS: usize = 1_023;

@@ -3,9 +3,9 @@ use super::frame_calls;
 use super::groups::Compared;
 use super::segment_calls::rows_asked;
 use std::sync::Arc;
-use ulyptesh_host::analysis::{frame_positions, windows};
-use ulyptesh_host::segments::Track;
-use ulyptesh_host::sheet::{Settings, Sheet};
+use ulyptesh::analysis::{frame_positions, windows};
+use ulyptesh::segments::Track;
+use ulyptesh::sheet::{Settings, Sheet};
 
 /// A call for frames with the lengths of their rows, and of the rest that is lent: work numbers, three lists for
 /// estimates, four for segments.

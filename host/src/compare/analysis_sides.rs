@@ -8,9 +8,9 @@ use super::key_lime::{KeyAnalysis, MusicalKey};
 use super::segment_calls::config;
 use super::segment_lists::put_joined;
 use super::segments::{their_estimates, their_groups};
-use ulyptesh_host::analysis::{AnalyseResult, Buffers, analyse};
-use ulyptesh_host::frames::FrameRows;
-use ulyptesh_host::segments::{EstimateRows, SegmentRows, Track};
+use ulyptesh::analysis::{AnalyseResult, Buffers, analyse};
+use ulyptesh::frames::FrameRows;
+use ulyptesh::segments::{EstimateRows, SegmentRows, Track};
 
 /// The number of a missing key.
 const NO_KEY: u32 = 24;

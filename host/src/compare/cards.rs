@@ -2,8 +2,8 @@
 use super::analyses::{self, BREACHES, MOST_SEGMENTS, Told};
 use super::groups::{Groups, compared_as_shown, compared_exactly};
 use super::packed::{REFUSED, exact_milliseconds, exact_thousandths};
-use ulyptesh_host::card::{self, NO_KEY};
-use ulyptesh_host::written::{TOO_FEW_BYTES, UNWRITABLE, Written};
+use ulyptesh::card::{self, NO_KEY};
+use ulyptesh::written::{TOO_FEW_BYTES, UNWRITABLE, Written};
 
 /// So many analyses of few segments, and so many for each broken rule.
 const FEW: usize = 100_000;

@@ -9,7 +9,7 @@ use super::key_lime::expose::{
 };
 use std::array;
 use std::iter;
-use ulyptesh_host::probe;
+use ulyptesh::probe;
 
 /// So many inputs of each kind, which makes over a million for each leaf.
 const OF_EACH_KIND: usize = 1 << 17;

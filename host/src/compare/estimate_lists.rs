@@ -2,7 +2,7 @@
 use super::dice::Dice;
 use super::groups::Compared;
 use super::key_lime::expose::{Estimate, key_from_index, key_number};
-use ulyptesh_host::segments::EstimateRows;
+use ulyptesh::segments::EstimateRows;
 
 /// Most estimates of a list.
 const MOST_ESTIMATES: usize = 60;

@@ -2,7 +2,7 @@
 use super::filters_tables::{Tables, heads};
 use super::groups::{Compared, Groups};
 use super::random::patterns;
-use ulyptesh_host::sheet::{Settings, Sheet, SheetHead, probe_sheet_matches};
+use ulyptesh::sheet::{Settings, Sheet, SheetHead, probe_sheet_matches};
 
 /// So many random sheets are judged.
 const RANDOM_SHEETS: usize = 20_000;

@@ -2,7 +2,7 @@
 use super::chromas::Chroma;
 use super::key_lime::KeyConfig;
 use super::key_lime::expose::{ConstantQ, Goertzel, apply_window, hanning_window};
-use ulyptesh_host::sheet::{Sheet, SheetHead};
+use ulyptesh::sheet::{Sheet, SheetHead};
 
 /// Rates at both ends of what the library takes, and the usual ones.
 const RATES: [u32; 5] = [44_100, 48_000, 8_000, 96_000, 192_000];

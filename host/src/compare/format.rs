@@ -1,7 +1,7 @@
 //! The two formats, each with Rust's answers and ours, so that every group is written once.
 use super::groups::Compared;
 use std::cmp::Ordering;
-use ulyptesh_host::probe;
+use ulyptesh::probe;
 
 /// f32 or f64.
 pub trait Format: Compared + Copy + PartialEq + 'static {

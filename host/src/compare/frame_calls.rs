@@ -1,7 +1,7 @@
 //! Calls for frames, and the request's check table over them, written out once more.
 use super::filters_sheets::follows_the_rules;
 use std::sync::Arc;
-use ulyptesh_host::sheet::{Settings, Sheet};
+use ulyptesh::sheet::{Settings, Sheet};
 
 /// What a call is given, and the lengths of the rows that it is lent.
 #[derive(Clone)]

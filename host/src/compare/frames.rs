@@ -8,8 +8,8 @@ use super::key_lime::expose::frame_chroma_sequence;
 use super::random::patterns;
 use super::segment_calls::config;
 use std::sync::Arc;
-use ulyptesh_host::frames::{FrameRows, FramesResult, frames};
-use ulyptesh_host::sheet::Settings;
+use ulyptesh::frames::{FrameRows, FramesResult, frames};
+use ulyptesh::sheet::Settings;
 
 /// Streams of the seed from here on are the frames'.
 const STREAM: u64 = 50_000;

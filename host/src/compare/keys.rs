@@ -1,9 +1,9 @@
 //! Keys, beside the oracle's.
 use super::groups::{Groups, compared_exactly};
 use super::key_lime::expose::{are_relative_keys, key_from_index, key_number};
-use ulyptesh_host::key_name;
-use ulyptesh_host::probe::{probe_are_relative_keys, probe_key_number, probe_same_key};
-use ulyptesh_host::written::{TOO_FEW_BYTES, UNWRITABLE, Written};
+use ulyptesh::key_name;
+use ulyptesh::probe::{probe_are_relative_keys, probe_key_number, probe_same_key};
+use ulyptesh::written::{TOO_FEW_BYTES, UNWRITABLE, Written};
 
 const KEYS: u32 = 24;
 

@@ -3,7 +3,7 @@ use super::chromas::plain_kinds;
 use super::groups::Groups;
 use super::random::patterns;
 use std::iter;
-use ulyptesh_host::probe;
+use ulyptesh::probe;
 
 /// Medians are of one to this many values.
 const MOST_VALUES: usize = 2_000;

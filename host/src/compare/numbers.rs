@@ -2,7 +2,7 @@
 use super::edges::{f32_values, f64_values};
 use super::format::Format;
 use super::groups::Groups;
-use ulyptesh_host::probe::{probe_floor, probe_narrow, probe_square_root, probe_widen};
+use ulyptesh::probe::{probe_floor, probe_narrow, probe_square_root, probe_widen};
 
 fn every_pattern() -> impl Iterator<Item = f32> {
     (0..=u32::MAX).map(f32::from_bits)

@@ -2,7 +2,7 @@
 use super::edges::{f32_values, f64_values};
 use super::groups::Groups;
 use super::random::patterns;
-use ulyptesh_host::probe::{probe_milliseconds, probe_thousandths};
+use ulyptesh::probe::{probe_milliseconds, probe_thousandths};
 
 /// What stands for none, in the answers of the probes too.
 pub(super) const REFUSED: u64 = u64::MAX;

@@ -3,7 +3,7 @@ use super::borderline::every_kind;
 use super::chromas::Chroma;
 use super::groups::{Compared, Groups, compared_exactly};
 use super::key_lime::expose::{classify_key_impl, key_confidence, key_number};
-use ulyptesh_host::scores::{self, KEYS, KeyResult, ScoresResult, WRONG_LENGTH};
+use ulyptesh::scores::{self, KEYS, KeyResult, ScoresResult, WRONG_LENGTH};
 
 /// So many chromas of each kind, which makes over a million.
 const OF_EACH_KIND: usize = 1 << 16;

@@ -1,7 +1,7 @@
 //! Calls for the segments of a track, the rows that they ask for, and what the oracle is given for them.
 use super::key_lime::{ChromaFrame, KeyConfig};
-use ulyptesh_host::segments::Track;
-use ulyptesh_host::sheet::Settings;
+use ulyptesh::segments::Track;
+use ulyptesh::sheet::Settings;
 
 /// The library counts no more windows: two a second of the longest track, and one.
 const MOST_WINDOWS: usize = 28_801;

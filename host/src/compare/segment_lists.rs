@@ -3,7 +3,7 @@ use super::dice::Dice;
 use super::groups::Compared;
 use super::key_lime::KeySegment;
 use super::key_lime::expose::{key_from_index, key_number};
-use ulyptesh_host::segments::SegmentRows;
+use ulyptesh::segments::SegmentRows;
 
 /// Start and end in seconds, key number, confidence.
 #[derive(Debug, Clone, Copy, PartialEq)]

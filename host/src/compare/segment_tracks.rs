@@ -3,8 +3,8 @@ use super::chromas::{Chroma, Kind, plain_kinds_from};
 use super::dice::Dice;
 use super::key_lime::expose::estimates;
 use super::segment_calls::{Asked, config, duration, frames, is_brief, rows_asked};
-use ulyptesh_host::segments::Track;
-use ulyptesh_host::sheet::Settings;
+use ulyptesh::segments::Track;
+use ulyptesh::sheet::Settings;
 
 const MOST_FRAMES: usize = 120;
 

@@ -7,7 +7,7 @@ use super::filters_tracks;
 use super::groups::Groups;
 use super::track_makers::{self, Maker};
 use std::sync::Arc;
-use ulyptesh_host::sheet::{Settings, Sheet, SheetHead};
+use ulyptesh::sheet::{Settings, Sheet, SheetHead};
 
 /// Streams of the seed from here on are the short tracks', two for each.
 const STREAM: u64 = 80_000;

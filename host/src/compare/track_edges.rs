@@ -10,7 +10,7 @@ use super::groups::Groups;
 use super::track_makers::{KINDS, Maker, kind};
 use std::f32::consts::PI;
 use std::sync::Arc;
-use ulyptesh_host::sheet::{Settings, Sheet};
+use ulyptesh::sheet::{Settings, Sheet};
 
 /// Streams of the seed from here on are the edges'.
 const STREAM: u64 = 69_000;

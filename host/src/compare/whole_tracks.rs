@@ -8,7 +8,7 @@ use super::key_lime::KeyConfig;
 use super::segment_calls::config;
 use super::track_makers::{KINDS, Maker};
 use std::sync::Arc;
-use ulyptesh_host::sheet::{Settings, Sheet, SheetHead};
+use ulyptesh::sheet::{Settings, Sheet, SheetHead};
 
 /// Streams of the seed from here on are the whole tracks', one for each.
 const STREAM: u64 = 70_000;

@@ -1,9 +1,9 @@
 //! A built-in track of half a minute, and what the library tells of it.
 use std::f64::consts::TAU;
-use ulyptesh_host::analysis::{Buffers, analyse};
-use ulyptesh_host::card::NO_KEY;
-use ulyptesh_host::key_name::{KeyNameError, key_name};
-use ulyptesh_host::sheet::{Settings, Sheet};
+use ulyptesh::analysis::{Buffers, analyse};
+use ulyptesh::card::NO_KEY;
+use ulyptesh::key_name::{KeyNameError, key_name};
+use ulyptesh::sheet::{Settings, Sheet};
 
 const RATE: u32 = 44_100;
 const SECONDS: usize = 32;

@@ -5,10 +5,10 @@ use super::key_lime::{KeyConfig, analyze};
 use super::track_makers::{Maker, kind};
 use super::{SEED, header};
 use std::hint::black_box;
-use ulyptesh_host::analysis::{Buffers, analyse};
-use ulyptesh_host::frames::{FrameRows, frames};
-use ulyptesh_host::segments::{EstimateRows, SegmentRows, Track, segments};
-use ulyptesh_host::sheet::{Settings, Sheet};
+use ulyptesh::analysis::{Buffers, analyse};
+use ulyptesh::frames::{FrameRows, frames};
+use ulyptesh::segments::{EstimateRows, SegmentRows, Track, segments};
+use ulyptesh::sheet::{Settings, Sheet};
 
 const RATES: [u32; 2] = [44_100, 48_000];
 const SECONDS: usize = 240;

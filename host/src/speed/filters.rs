@@ -2,7 +2,7 @@
 use super::filters_tables::Tables;
 use super::random::patterns;
 use super::{SEED, fastest, nanoseconds};
-use ulyptesh_host::sheet::SheetHead;
+use ulyptesh::sheet::SheetHead;
 
 const RATES: [u32; 2] = [44_100, 48_000];
 const FRAME_SIZE: usize = 4_096;

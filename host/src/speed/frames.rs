@@ -6,8 +6,8 @@ use super::random::patterns;
 use super::{SEED, header};
 use std::hint::black_box;
 use std::time::Instant;
-use ulyptesh_host::frames::{FrameRows, frames};
-use ulyptesh_host::sheet::{Settings, SheetHead};
+use ulyptesh::frames::{FrameRows, frames};
+use ulyptesh::sheet::{Settings, SheetHead};
 
 const RATE: u32 = 44_100;
 const SECONDS: usize = 240;

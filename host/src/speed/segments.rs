@@ -5,8 +5,8 @@ use super::key_lime::expose::{estimate_segments, key_from_index};
 use super::key_lime::{ChromaFrame, KeyConfig};
 use super::{SEED, header};
 use std::hint::black_box;
-use ulyptesh_host::segments::{EstimateRows, SegmentRows, Track, segments};
-use ulyptesh_host::sheet::Settings;
+use ulyptesh::segments::{EstimateRows, SegmentRows, Track, segments};
+use ulyptesh::sheet::Settings;
 
 const RATE: u32 = 44_100;
 const SAMPLES: usize = 14_400 * RATE as usize;
