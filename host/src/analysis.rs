@@ -46,7 +46,7 @@ pub fn windows(settings: &Settings, samples: usize) -> usize {
 }
 
 /// What an analysis is lent to write. The shortest list of a kind is its room.
-#[derive(Debug, Clone, PartialEq)]
+#[derive(Debug, Clone, Default, PartialEq)]
 pub struct Buffers {
     pub frames: FrameRows,
     pub work: Vec<f32>,
@@ -54,29 +54,34 @@ pub struct Buffers {
     pub segments: SegmentRows,
 }
 
+/// Zeros are added up to this length.
+fn grow<A: Clone + Default>(list: &mut Vec<A>, length: usize) {
+    list.resize(list.len().max(length), A::default());
+}
+
 impl Buffers {
     /// Zeros, as many as a track of so many samples needs.
     pub fn for_track(settings: &Settings, samples: usize) -> Self {
+        let mut lent = Self::default();
+        lent.grow_for(settings, samples);
+        lent
+    }
+
+    /// At least as many as a track of so many samples needs; what is there stays.
+    pub fn grow_for(&mut self, settings: &Settings, samples: usize) {
         let (positions, windows) = (frame_positions(settings, samples), windows(settings, samples));
-        Self {
-            frames: FrameRows {
-                centres: vec![0.0; positions],
-                values: vec![[0.0; PITCH_CLASSES]; positions],
-                energies: vec![0.0; positions],
-            },
-            work: vec![0.0; positions],
-            estimates: EstimateRows {
-                middles: vec![0.0; windows],
-                numbers: vec![0; windows],
-                certainties: vec![0.0; windows],
-            },
-            segments: SegmentRows {
-                starts: vec![0.0; windows],
-                ends: vec![0.0; windows],
-                keys: vec![0; windows],
-                confidences: vec![0.0; windows],
-            },
-        }
+        let Self { frames, work, estimates, segments } = self;
+        grow(&mut frames.centres, positions);
+        grow(&mut frames.values, positions);
+        grow(&mut frames.energies, positions);
+        grow(work, positions);
+        grow(&mut estimates.middles, windows);
+        grow(&mut estimates.numbers, windows);
+        grow(&mut estimates.certainties, windows);
+        grow(&mut segments.starts, windows);
+        grow(&mut segments.ends, windows);
+        grow(&mut segments.keys, windows);
+        grow(&mut segments.confidences, windows);
     }
 
     /// How much memory is lent.

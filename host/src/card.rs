@@ -10,7 +10,7 @@ pub const LONGEST_CARD: usize = (49 + 39 * 1_023usize).div_ceil(8);
 
 /// What a card is written from: keys by number, times in seconds, confidences and the coverage from 0 to 1.
 #[derive(Debug, Clone, Copy)]
-pub struct Analysis<'a> {
+pub struct Facts<'a> {
     pub key: u32,
     pub dsp_key: u32,
     pub alternate: u32,
@@ -67,7 +67,7 @@ impl fmt::Display for CardError {
 impl std::error::Error for CardError {}
 
 /// The library's own answer, as it is.
-pub fn answer(told: &Analysis<'_>, bytes: &mut [u8]) -> Written {
+pub fn answer(told: &Facts<'_>, bytes: &mut [u8]) -> Written {
     // SAFETY: each pointer and count are one slice, which outlives the call; the bytes are exclusive.
     unsafe {
         ulyptesh_write_card(
@@ -91,7 +91,7 @@ pub fn answer(told: &Analysis<'_>, bytes: &mut [u8]) -> Written {
 }
 
 /// Writes the card to the front of `bytes` and gives its length; the bytes behind it stay.
-pub fn write_card(told: &Analysis<'_>, bytes: &mut [u8]) -> Result<usize, CardError> {
+pub fn write_card(told: &Facts<'_>, bytes: &mut [u8]) -> Result<usize, CardError> {
     let lent = bytes.len();
     match answer(told, bytes) {
         Written { refusal: 0, length } => Ok(length),
@@ -102,7 +102,7 @@ pub fn write_card(told: &Analysis<'_>, bytes: &mut [u8]) -> Result<usize, CardEr
 }
 
 /// The card of an analysis.
-pub fn card(told: &Analysis<'_>) -> Result<Vec<u8>, CardError> {
+pub fn card(told: &Facts<'_>) -> Result<Vec<u8>, CardError> {
     let mut bytes = vec![0; LONGEST_CARD];
     let length = write_card(told, &mut bytes)?;
     bytes.truncate(length);

@@ -13,7 +13,7 @@ pub struct FramesResult {
 }
 
 /// Rows for frames: centre in seconds, chroma, energy. The shortest list is the room.
-#[derive(Debug, Clone, PartialEq)]
+#[derive(Debug, Clone, Default, PartialEq)]
 pub struct FrameRows {
     pub centres: Vec<f64>,
     pub values: Vec<[f32; PITCH_CLASSES]>,

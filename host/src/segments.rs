@@ -5,7 +5,7 @@ use crate::scores::PITCH_CLASSES;
 use crate::sheet::Settings;
 
 /// Rows for estimates: a window's middle in seconds, key number, confidence. The shortest list is the room.
-#[derive(Debug, Clone, PartialEq)]
+#[derive(Debug, Clone, Default, PartialEq)]
 pub struct EstimateRows {
     pub middles: Vec<f64>,
     pub numbers: Vec<u8>,
@@ -13,7 +13,7 @@ pub struct EstimateRows {
 }
 
 /// Rows for segments: start and end in seconds, key number, confidence. The shortest list is the room.
-#[derive(Debug, Clone, PartialEq)]
+#[derive(Debug, Clone, Default, PartialEq)]
 pub struct SegmentRows {
     pub starts: Vec<f64>,
     pub ends: Vec<f64>,

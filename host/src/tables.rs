@@ -31,6 +31,19 @@ fn window_length(rate: u32, frequency: f32) -> usize {
 }
 
 impl Sheet {
+    /// A sheet without tables, for calls that end before the library looks at them.
+    pub fn empty(settings: &Settings) -> Self {
+        Self {
+            head: settings.head(),
+            window: vec![],
+            goertzel_coefficients: vec![],
+            goertzel_weights: vec![],
+            constant_q_lengths: vec![],
+            constant_q_coefficients: vec![],
+            constant_q_windows: vec![],
+        }
+    }
+
     /// The sheet for this call.
     pub fn for_call(settings: &Settings) -> Self {
         let Settings { rate, minimum_midi_note, maximum_midi_note, frame_size, .. } = *settings;

@@ -4,7 +4,7 @@ mod analysed_track;
 
 use std::io::{self, Write};
 use std::process::ExitCode;
-use ulyptesh::card::{Analysis, NO_KEY, card};
+use ulyptesh::card::{Facts, NO_KEY, card};
 use ulyptesh::key_name::key_name;
 use ulyptesh::scores::key;
 
@@ -16,7 +16,7 @@ const USAGE: &str = "usage: ulyptesh demo               the 24 keys, the key of 
 const TRIAD: [f32; 12] = [0.8, 0.0, 0.0, 0.0, 0.7, 0.0, 0.0, 0.0, 0.0, 1.0, 0.0, 0.0];
 
 /// Three minutes of A minor, in one segment.
-const THREE_MINUTES: Analysis<'_> = Analysis {
+const THREE_MINUTES: Facts<'_> = Facts {
     key: 21,
     dsp_key: 21,
     alternate: NO_KEY,
@@ -54,7 +54,7 @@ fn demo() -> Result<(), Failure> {
 }
 
 /// The bytes of a card, in hexadecimal.
-fn card_of(told: &Analysis<'_>) -> Result<String, Failure> {
+fn card_of(told: &Facts<'_>) -> Result<String, Failure> {
     let bytes = card(told).map_err(refused)?;
     Ok(bytes.iter().map(|byte| format!("{byte:02X}")).collect::<Vec<_>>().join(" "))
 }

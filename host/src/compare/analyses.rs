@@ -1,7 +1,7 @@
 //! Analyses as a card is written from them: such as it holds, and such as break one of its rules.
 use super::packed::LONGEST;
 use super::random::patterns;
-use ulyptesh::card::{Analysis, NO_KEY};
+use ulyptesh::card::{Facts, NO_KEY};
 
 /// Most segments of a card.
 pub const MOST_SEGMENTS: usize = 1_023;
@@ -25,8 +25,8 @@ pub struct Told {
 }
 
 impl Told {
-    pub fn as_lent(&self) -> Analysis<'_> {
-        Analysis {
+    pub fn as_lent(&self) -> Facts<'_> {
+        Facts {
             key: self.key,
             dsp_key: self.dsp_key,
             alternate: self.alternate,
