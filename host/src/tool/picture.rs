@@ -1,0 +1,186 @@
+//! An analysis as a picture: the segments along the time, and the chroma below them.
+use super::heat_map::{self, BOTTOM};
+use super::with_code;
+use ulyptesh::analyzer::LoudFrame;
+use ulyptesh::{Analysis, Analyzer, Key, Segment};
+
+/// Where time begins, and how far it goes.
+pub const LEFT: usize = 60;
+pub const WIDTH: usize = 910;
+
+/// The segments' blocks.
+const BLOCKS: usize = 68;
+const BLOCK_HEIGHT: usize = 58;
+
+/// Letters of the large and of the small text are at most so wide.
+const LARGE_LETTER: f64 = 9.5;
+const SMALL_LETTER: f64 = 7.0;
+
+/// The longest name that fits beneath the title.
+const LONGEST_NAME: usize = 90;
+
+/// Seconds from tick to tick; the first that gives few enough is taken.
+const STEPS: [f64; 15] =
+    [0.1, 0.2, 0.5, 1.0, 2.0, 5.0, 10.0, 15.0, 30.0, 60.0, 120.0, 300.0, 600.0, 1_200.0, 1_800.0];
+const MOST_TICKS: f64 = 12.0;
+
+pub struct Picture<'a> {
+    name: &'a str,
+    told: &'a Analysis,
+    frames: Vec<LoudFrame>,
+    /// Seconds from frame to frame.
+    hop: f64,
+}
+
+/// Text as it may stand in XML.
+fn escaped(text: &str) -> String {
+    let escape = |c: char| match c {
+        '&' => "&amp;".into(),
+        '<' => "&lt;".into(),
+        '>' => "&gt;".into(),
+        '"' => "&quot;".into(),
+        c if c.is_control() || ('\u{fffe}'..='\u{ffff}').contains(&c) => " ".into(),
+        c => c.to_string(),
+    };
+    text.chars().map(escape).collect()
+}
+
+/// The end of a long name, which tells most.
+fn shortened(name: &str) -> String {
+    let letters: Vec<char> = name.chars().collect();
+    match letters.len().checked_sub(LONGEST_NAME) {
+        None | Some(0) => name.into(),
+        Some(over) => format!("...{}", letters[over + 3..].iter().collect::<String>()),
+    }
+}
+
+/// Minutes and seconds, with hours where there are any; tenths of a second where the whole track has few.
+fn clock(seconds: f64, duration: f64) -> String {
+    if duration < 10.0 {
+        return format!("{seconds:.1} s");
+    }
+    let whole = seconds.round() as u64;
+    let (hours, minutes, seconds) = (whole / 3600, whole / 60 % 60, whole % 60);
+    if hours > 0 { format!("{hours}:{minutes:02}:{seconds:02}") } else { format!("{minutes}:{seconds:02}") }
+}
+
+/// Around the Camelot wheel by hue, light enough for dark text; minor keys are the darker ones.
+fn colour(key: Key) -> String {
+    let (saturation, lightness) = if key.is_minor() { (0.55, 0.68) } else { (0.75, 0.80) };
+    let hue = f64::from(key.hour() - 1) / 12.0;
+    let reach = saturation * f64::min(lightness, 1.0 - lightness);
+    let channel = |offset: f64| {
+        let place = (offset + hue * 12.0) % 12.0;
+        let turn = f64::min(place - 3.0, 9.0 - place).clamp(-1.0, 1.0);
+        ((lightness - reach * turn) * 255.0).round() as u8
+    };
+    format!("#{:02x}{:02x}{:02x}", channel(0.0), channel(8.0), channel(4.0))
+}
+
+impl<'a> Picture<'a> {
+    /// Of the track that was analysed last.
+    pub fn new(name: &'a str, told: &'a Analysis, analyzer: &Analyzer) -> Self {
+        let settings = analyzer.settings();
+        let hop = settings.hop_size as f64 / f64::from(settings.rate);
+        Self { name, told, frames: analyzer.loud_frames().collect(), hop }
+    }
+
+    fn x(&self, seconds: f64) -> f64 {
+        LEFT as f64 + seconds / self.told.duration * WIDTH as f64
+    }
+
+    fn clock(&self, seconds: f64) -> String {
+        clock(seconds, self.told.duration)
+    }
+
+    fn title(&self) -> String {
+        let told = self.told;
+        let Some(key) = told.key else { return "no key".into() };
+        let alternate = told.alternate.map_or("no alternate".into(), |other| {
+            format!("alternate {}, {:.3} of the track", with_code(other.key), other.coverage)
+        });
+        format!("{}, confidence {:.3}; {alternate}", with_code(key), told.confidence)
+    }
+
+    fn subtitle(&self) -> String {
+        let (name, frames) = (shortened(self.name), self.told.frames);
+        format!("{name}: {:.2} s, {frames} loud frames", self.told.duration)
+    }
+
+    /// The two lines in a block: as much as fits.
+    fn labels(&self, segment: &Segment, width: f64) -> (String, String) {
+        let (name, code) = (segment.key.name(), segment.key.camelot());
+        let times = format!("{}, {} to {}", code, self.clock(segment.start), self.clock(segment.end));
+        let fits = |text: &str, letter: f64| text.len() as f64 * letter <= width;
+        let name = if fits(&name, LARGE_LETTER) { name } else { String::new() };
+        let below = [times, code].into_iter().find(|text| fits(text, SMALL_LETTER)).unwrap_or_default();
+        (name, below)
+    }
+
+    fn block(&self, segment: &Segment) -> String {
+        let (left, right) = (self.x(segment.start), self.x(segment.end));
+        let (width, middle) = (right - left, (left + right) / 2.0);
+        let (name, below) = self.labels(segment, width);
+        let told = format!(
+            "{}, {} to {}, confidence {:.3}",
+            with_code(segment.key),
+            self.clock(segment.start),
+            self.clock(segment.end),
+            segment.confidence
+        );
+        format!(
+            "<g><title>{told}</title>\
+             <rect x=\"{left:.1}\" y=\"{BLOCKS}\" width=\"{width:.1}\" height=\"{BLOCK_HEIGHT}\" fill=\"{}\" \
+             stroke=\"#fff\"/>\
+             <text x=\"{middle:.1}\" y=\"{}\" font-size=\"15\" font-weight=\"bold\">{name}</text>\
+             <text x=\"{middle:.1}\" y=\"{}\">{below}</text></g>\n",
+            colour(segment.key),
+            BLOCKS + 25,
+            BLOCKS + 45,
+        )
+    }
+
+    fn tick(&self, seconds: f64) -> String {
+        let (x, label) = (self.x(seconds), self.clock(seconds));
+        let mark = |y: usize| {
+            format!(
+                "<path d=\"M{x:.1} {y}v6\" stroke=\"#555\"/><text x=\"{x:.1}\" y=\"{}\">{label}</text>\n",
+                y + 20
+            )
+        };
+        mark(BLOCKS + BLOCK_HEIGHT) + &mark(BOTTOM)
+    }
+
+    fn axis(&self) -> String {
+        let duration = self.told.duration;
+        let step = STEPS.into_iter().find(|step| duration / step <= MOST_TICKS).unwrap_or(3_600.0);
+        let ticks = (0..).map(|nth| f64::from(nth) * step).take_while(|&seconds| seconds <= duration);
+        ticks.map(|seconds| self.tick(seconds)).collect()
+    }
+
+    /// What lies along the time; nothing where the track has no length.
+    fn plot(&self) -> String {
+        if self.told.duration <= 0.0 {
+            return String::new();
+        }
+        let blocks: String = self.told.segments.iter().map(|segment| self.block(segment)).collect();
+        let map = heat_map::drawn(&self.frames, self.told.duration, self.hop);
+        format!("<g text-anchor=\"middle\">\n{blocks}{}</g>\n{map}", self.axis())
+    }
+}
+
+/// The picture as SVG: 1,000 by 420, dark on light.
+pub fn svg(picture: &Picture<'_>) -> String {
+    format!(
+        "<svg xmlns=\"http://www.w3.org/2000/svg\" viewBox=\"0 0 1000 420\" width=\"1000\" height=\"420\" \
+         font-family=\"sans-serif\" font-size=\"12\" fill=\"#222\">\n\
+         <rect width=\"1000\" height=\"420\" fill=\"#fff\"/>\n\
+         <text x=\"{LEFT}\" y=\"32\" font-size=\"20\" font-weight=\"bold\">{}</text>\n\
+         <text x=\"{LEFT}\" y=\"54\" font-size=\"13\" fill=\"#555\">{}</text>\n{}\
+         <text x=\"{LEFT}\" y=\"410\" fill=\"#555\">chroma of the loud frames: the darker, the stronger; blank \
+         where the track is silent</text>\n</svg>\n",
+        escaped(&picture.title()),
+        escaped(&picture.subtitle()),
+        picture.plot(),
+    )
+}
