@@ -1,6 +1,7 @@
 //! The chroma over time: a row for each pitch class, a column for each while, averaged from the loud frames.
 use super::picture::{LEFT, WIDTH};
 use std::fmt::Write;
+use std::ops::RangeInclusive;
 use ulyptesh::analyzer::LoudFrame;
 
 /// Most columns of the map.
@@ -20,14 +21,20 @@ const NAMES: [&str; 12] = ["C", "C#", "D", "D#", "E", "F", "F#", "G", "G#", "A",
 /// The mean chroma of the loud frames of one column.
 type Column = Option<[f64; 12]>;
 
+/// The columns of a track that a frame lies in, with so many seconds on either side of its centre.
+fn columns_of(centre: f64, half: f64, duration: f64, count: usize) -> RangeInclusive<usize> {
+    let column = |seconds: f64| ((seconds / duration * count as f64) as usize).min(count - 1);
+    column(centre - half)..=column(centre + half)
+}
+
 /// The columns of a track; one without a loud frame is empty.
-fn columns(frames: &[LoudFrame], duration: f64, count: usize) -> Vec<Column> {
+fn columns(frames: &[LoudFrame], half: f64, duration: f64, count: usize) -> Vec<Column> {
     let mut sums = vec![([0.0; 12], 0); count];
     for frame in frames {
-        let column = (frame.centre / duration * count as f64) as usize;
-        let (sum, heard) = &mut sums[column.min(count - 1)];
-        sum.iter_mut().zip(frame.chroma).for_each(|(sum, value)| *sum += f64::from(value));
-        *heard += 1;
+        for (sum, heard) in &mut sums[columns_of(frame.centre, half, duration, count)] {
+            sum.iter_mut().zip(frame.chroma).for_each(|(sum, value)| *sum += f64::from(value));
+            *heard += 1;
+        }
     }
     sums.into_iter().map(|(sum, heard)| (heard > 0).then(|| sum.map(|sum| sum / f64::from(heard)))).collect()
 }
@@ -73,10 +80,10 @@ fn row_name(class: usize) -> String {
     format!("<text x=\"{x}\" y=\"{y}\" text-anchor=\"end\">{}</text>\n", NAMES[class])
 }
 
-/// The map of a track with a frame each hop, both in seconds.
-pub fn drawn(frames: &[LoudFrame], duration: f64, hop: f64) -> String {
-    let count = ((duration / hop) as usize).clamp(1, MOST);
-    let paths = cells(&columns(frames, duration, count));
+/// The map of a track with frames of some length, in seconds.
+pub fn drawn(frames: &[LoudFrame], frame: f64, duration: f64) -> String {
+    let count = ((2.0 * duration / frame) as usize).clamp(1, MOST);
+    let paths = cells(&columns(frames, frame / 2.0, duration, count));
     let filled = paths.iter().enumerate().filter(|(_, path)| !path.is_empty());
     let cells = filled.map(|(shade, path)| format!("<path fill=\"{}\" d=\"{path}\"/>\n", colour(shade)));
     let height = BOTTOM - TOP;

@@ -13,7 +13,7 @@ const BLOCKS: usize = 68;
 const BLOCK_HEIGHT: usize = 58;
 
 /// Letters of the large and of the small text are at most so wide.
-const LARGE_LETTER: f64 = 9.5;
+const LARGE_LETTER: f64 = 10.5;
 const SMALL_LETTER: f64 = 7.0;
 
 /// The longest name that fits beneath the title.
@@ -28,8 +28,8 @@ pub struct Picture<'a> {
     name: &'a str,
     told: &'a Analysis,
     frames: Vec<LoudFrame>,
-    /// Seconds from frame to frame.
-    hop: f64,
+    /// Seconds of a frame.
+    frame: f64,
 }
 
 /// Text as it may stand in XML.
@@ -81,8 +81,8 @@ impl<'a> Picture<'a> {
     /// Of the track that was analysed last.
     pub fn new(name: &'a str, told: &'a Analysis, analyzer: &Analyzer) -> Self {
         let settings = analyzer.settings();
-        let hop = settings.hop_size as f64 / f64::from(settings.rate);
-        Self { name, told, frames: analyzer.loud_frames().collect(), hop }
+        let frame = settings.frame_size as f64 / f64::from(settings.rate);
+        Self { name, told, frames: analyzer.loud_frames().collect(), frame }
     }
 
     fn x(&self, seconds: f64) -> f64 {
@@ -107,36 +107,33 @@ impl<'a> Picture<'a> {
         format!("{name}: {:.2} s, {frames} loud frames", self.told.duration)
     }
 
-    /// The two lines in a block: as much as fits.
-    fn labels(&self, segment: &Segment, width: f64) -> (String, String) {
-        let (name, code) = (segment.key.name(), segment.key.camelot());
-        let times = format!("{}, {} to {}", code, self.clock(segment.start), self.clock(segment.end));
-        let fits = |text: &str, letter: f64| text.len() as f64 * letter <= width;
-        let name = if fits(&name, LARGE_LETTER) { name } else { String::new() };
-        let below = [times, code].into_iter().find(|text| fits(text, SMALL_LETTER)).unwrap_or_default();
-        (name, below)
+    /// A line of a block at this height, where it is short enough.
+    fn line(&self, segment: &Segment, text: &str, letter: f64, below: usize, style: &str) -> String {
+        let (left, right) = (self.x(segment.start), self.x(segment.end));
+        if text.len() as f64 * letter > right - left {
+            return String::new();
+        }
+        let (middle, y) = ((left + right) / 2.0, BLOCKS + below);
+        format!("<text x=\"{middle:.1}\" y=\"{y}\"{style}>{text}</text>")
     }
 
     fn block(&self, segment: &Segment) -> String {
-        let (left, right) = (self.x(segment.start), self.x(segment.end));
-        let (width, middle) = (right - left, (left + right) / 2.0);
-        let (name, below) = self.labels(segment, width);
-        let told = format!(
-            "{}, {} to {}, confidence {:.3}",
-            with_code(segment.key),
-            self.clock(segment.start),
-            self.clock(segment.end),
-            segment.confidence
-        );
+        let (left, key) = (self.x(segment.start), segment.key);
+        let width = self.x(segment.end) - left;
+        let times = format!("{} to {}", self.clock(segment.start), self.clock(segment.end));
+        let lines = [
+            self.line(segment, &key.name(), LARGE_LETTER, 20, " font-size=\"15\" font-weight=\"bold\""),
+            self.line(segment, &key.camelot(), SMALL_LETTER, 36, ""),
+            self.line(segment, &times, SMALL_LETTER, 51, ""),
+        ];
         format!(
-            "<g><title>{told}</title>\
+            "<g><title>{}, {times}, confidence {:.3}</title>\
              <rect x=\"{left:.1}\" y=\"{BLOCKS}\" width=\"{width:.1}\" height=\"{BLOCK_HEIGHT}\" fill=\"{}\" \
-             stroke=\"#fff\"/>\
-             <text x=\"{middle:.1}\" y=\"{}\" font-size=\"15\" font-weight=\"bold\">{name}</text>\
-             <text x=\"{middle:.1}\" y=\"{}\">{below}</text></g>\n",
-            colour(segment.key),
-            BLOCKS + 25,
-            BLOCKS + 45,
+             stroke=\"#fff\"/>{}</g>\n",
+            with_code(key),
+            segment.confidence,
+            colour(key),
+            lines.concat()
         )
     }
 
@@ -164,7 +161,7 @@ impl<'a> Picture<'a> {
             return String::new();
         }
         let blocks: String = self.told.segments.iter().map(|segment| self.block(segment)).collect();
-        let map = heat_map::drawn(&self.frames, self.told.duration, self.hop);
+        let map = heat_map::drawn(&self.frames, self.frame, self.told.duration);
         format!("<g text-anchor=\"middle\">\n{blocks}{}</g>\n{map}", self.axis())
     }
 }
@@ -175,10 +172,10 @@ pub fn svg(picture: &Picture<'_>) -> String {
         "<svg xmlns=\"http://www.w3.org/2000/svg\" viewBox=\"0 0 1000 420\" width=\"1000\" height=\"420\" \
          font-family=\"sans-serif\" font-size=\"12\" fill=\"#222\">\n\
          <rect width=\"1000\" height=\"420\" fill=\"#fff\"/>\n\
-         <text x=\"{LEFT}\" y=\"32\" font-size=\"20\" font-weight=\"bold\">{}</text>\n\
+         <text x=\"{LEFT}\" y=\"32\" font-size=\"18\" font-weight=\"bold\">{}</text>\n\
          <text x=\"{LEFT}\" y=\"54\" font-size=\"13\" fill=\"#555\">{}</text>\n{}\
          <text x=\"{LEFT}\" y=\"410\" fill=\"#555\">chroma of the loud frames: the darker, the stronger; blank \
-         where the track is silent</text>\n</svg>\n",
+         where none is loud</text>\n</svg>\n",
         escaped(&picture.title()),
         escaped(&picture.subtitle()),
         picture.plot(),
