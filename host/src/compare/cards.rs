@@ -56,7 +56,7 @@ fn theirs(told: Told) -> Left {
 type Segment = (u64, u64, u64);
 
 /// The card, or none where a rule is broken.
-fn packed(told: &Told) -> Option<Vec<u8>> {
+pub fn packed(told: &Told) -> Option<Vec<u8>> {
     let segments = segments(told)?;
     let (coverage, confidence) = (exact_thousandths(told.coverage), exact_thousandths(told.confidence));
     let parts_fit = coverage != REFUSED && confidence != REFUSED;

@@ -19,9 +19,11 @@ mod filters_sheets;
 mod filters_tables;
 mod filters_tracks;
 mod format;
+mod found;
 mod frame_calls;
 mod frames;
 mod groups;
+mod json;
 mod keys;
 mod medians;
 mod numbers;
@@ -35,6 +37,10 @@ mod segment_tracks;
 mod segments;
 mod short_tracks;
 mod shortening;
+mod tool_inputs;
+mod tool_refusals;
+mod tool_runs;
+mod tool_tracks;
 mod track_edges;
 mod track_makers;
 mod whole_tracks;
@@ -42,23 +48,52 @@ mod whole_tracks;
 use groups::Groups;
 use std::process::ExitCode;
 
-const USAGE: &str = "usage: compare [--seed NUMBER] [--all]
+const USAGE: &str = "usage: compare [--seed NUMBER] [--all] [--only TOPIC]
   --seed NUMBER  start of the random inputs
-  --all          also square_root and floor on all 2^32 patterns, which takes about a minute";
+  --all          also square_root and floor on all 2^32 patterns, which takes about a minute
+  --only TOPIC   one topic alone, such as frames or tool_tracks";
 
 const SEED: u64 = 44_100;
+
+/// A module's name and its groups.
+type Topic = (&'static str, fn(&mut Groups, &Options));
+
+const TOPICS: [Topic; 20] = [
+    ("numbers", |groups, given| numbers::compare(groups, given.all)),
+    ("orders", |groups, _| orders::compare(groups)),
+    ("keys", |groups, _| keys::compare(groups)),
+    ("scores", |groups, _| scores::compare(groups)),
+    ("chroma_leaves", |groups, _| chroma_leaves::compare(groups)),
+    ("medians", |groups, _| medians::compare(groups)),
+    ("packed", |groups, _| packed::compare(groups)),
+    ("cards", |groups, _| cards::compare(groups)),
+    ("filters", |groups, _| filters::compare(groups)),
+    ("frames", |groups, _| frames::compare(groups)),
+    ("estimates", |groups, _| estimates::compare(groups)),
+    ("shortening", |groups, _| shortening::compare(groups)),
+    ("alternates", |groups, _| alternates::compare(groups)),
+    ("segments", |groups, _| segments::compare(groups)),
+    ("track_edges", |groups, _| track_edges::compare(groups)),
+    ("short_tracks", |groups, _| short_tracks::compare(groups)),
+    ("whole_tracks", |groups, _| whole_tracks::compare(groups)),
+    ("found", |groups, _| found::compare(groups)),
+    ("tool_refusals", |groups, _| tool_refusals::compare(groups)),
+    ("tool_tracks", |groups, _| tool_tracks::compare(groups)),
+];
 
 struct Options {
     seed: u64,
     all: bool,
+    only: Option<String>,
 }
 
 fn options(mut words: impl Iterator<Item = String>) -> Result<Options, String> {
-    let mut given = Options { seed: SEED, all: false };
+    let mut given = Options { seed: SEED, all: false, only: None };
     while let Some(word) = words.next() {
         match word.as_str() {
             "--all" => given.all = true,
             "--seed" => given.seed = seed(words.next())?,
+            "--only" => given.only = Some(topic(words.next())?),
             _ => return Err(format!("'{word}' is not an option")),
         }
     }
@@ -70,25 +105,16 @@ fn seed(word: Option<String>) -> Result<u64, String> {
     word.parse().map_err(|_| format!("'{word}' is not a whole number that 64 bits hold"))
 }
 
+fn topic(word: Option<String>) -> Result<String, String> {
+    let word = word.ok_or("--only needs a topic")?;
+    let known = TOPICS.iter().any(|&(name, _)| name == word);
+    if known { Ok(word) } else { Err(format!("'{word}' is not a topic")) }
+}
+
 fn compare(given: &Options) -> ExitCode {
     let mut groups = Groups::new(given.seed);
-    numbers::compare(&mut groups, given.all);
-    orders::compare(&mut groups);
-    keys::compare(&mut groups);
-    scores::compare(&mut groups);
-    chroma_leaves::compare(&mut groups);
-    medians::compare(&mut groups);
-    packed::compare(&mut groups);
-    cards::compare(&mut groups);
-    filters::compare(&mut groups);
-    frames::compare(&mut groups);
-    estimates::compare(&mut groups);
-    shortening::compare(&mut groups);
-    alternates::compare(&mut groups);
-    segments::compare(&mut groups);
-    track_edges::compare(&mut groups);
-    short_tracks::compare(&mut groups);
-    whole_tracks::compare(&mut groups);
+    let asked = |name: &str| given.only.as_deref().is_none_or(|only| only == name);
+    TOPICS.iter().filter(|topic| asked(topic.0)).for_each(|topic| topic.1(&mut groups, given));
     groups.close()
 }
 
