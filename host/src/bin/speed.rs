@@ -22,8 +22,14 @@ mod filters_tables;
 #[cfg(oracle)]
 #[path = "../speed/frames.rs"]
 mod frames;
+#[cfg(oracle)]
+#[path = "../speed/memory.rs"]
+mod memory;
 #[path = "../compare/random.rs"]
 mod random;
+#[cfg(oracle)]
+#[path = "../tool/samples.rs"]
+mod samples;
 #[cfg(oracle)]
 #[path = "../speed/segments.rs"]
 mod segments;
@@ -33,7 +39,9 @@ mod segments;
 mod track_makers;
 
 use random::patterns;
+use std::ffi::OsString;
 use std::hint::black_box;
+use std::process::ExitCode;
 use std::time::Instant;
 use ulyptesh::probe::{median, probe_narrow, probe_square_root};
 
@@ -133,7 +141,7 @@ fn chroma_rows() {
     );
 }
 
-fn main() {
+fn print_tables() {
     leaf_rows();
     median_row();
     #[cfg(oracle)]
@@ -146,4 +154,21 @@ fn main() {
     segments::print_row();
     #[cfg(oracle)]
     analyses::print_rows();
+}
+
+/// `speed` prints the tables of times, `speed --memory` that of memory, which runs `speed --memory FILE`.
+fn main() -> ExitCode {
+    let words: Vec<OsString> = std::env::args_os().skip(1).collect();
+    match &words[..] {
+        [] => print_tables(),
+        #[cfg(oracle)]
+        [word] if word == "--memory" => memory::print_row(),
+        #[cfg(oracle)]
+        [word, file] if word == "--memory" => memory::analyse_theirs(file),
+        _ => {
+            eprintln!("usage: speed [--memory]");
+            return ExitCode::from(2);
+        }
+    }
+    ExitCode::SUCCESS
 }
