@@ -25,4 +25,4 @@ pub use analyzer::Analyzer;
 pub use found::{Alternate, Analysis, Segment};
 pub use keys::Key;
 pub use refusal::Refusal;
-pub use sheet::Settings;
+pub use sheet::{Settings, Sheet};

@@ -32,7 +32,7 @@ fn window_length(rate: u32, frequency: f32) -> usize {
 
 impl Sheet {
     /// A sheet without tables, for calls that end before the library looks at them.
-    pub fn empty(settings: &Settings) -> Self {
+    pub(crate) fn empty(settings: &Settings) -> Self {
         Self {
             head: settings.head(),
             window: vec![],

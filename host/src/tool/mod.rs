@@ -25,7 +25,7 @@ ulyptesh tells the musical key of tracks.
 
   ulyptesh analyse FILE.. --rate N [--json] [--card OUT] [--svg OUT]
       key, confidence, alternate key and key segments of each track
-      FILE        raw samples: mono, 32-bit floats, little-endian; - is standard input
+      FILE        raw mono samples, 32-bit little-endian floats; - is standard input
       --rate N    samples in a second, up to 192000
       --json      an array with an object for each file
       --card OUT  also writes the key card, for one file
@@ -35,12 +35,12 @@ ulyptesh tells the musical key of tracks.
   ulyptesh key NUMBER x12
       the key of a chroma: a number for each pitch class, from C upward
   ulyptesh key-name NUMBER
-      the name of one key: 0 to 11 are C major to B major, 12 to 23 the minor keys
+      the name of one key: 0 is C major, 11 B major, 12 C minor, 23 B minor
   ulyptesh demo [--svg OUT]
       the 24 keys, the key of a triad, a key card, a built-in track
 
 OUT is written only where all went well, and replaced where it is there.
-Exit status: 0, or 1 for a track that was refused or not read, or 2 for bad usage.";
+Exit status: 0, or 1 for a track refused or not read, or 2 for bad usage.";
 
 /// One line, or several, on standard output.
 fn say(text: &str) -> Result<(), Failure> {
