@@ -72,5 +72,5 @@ pub fn track(seed: u64, nth: usize, sheets: &[Arc<Sheet>; 2]) -> Track {
 
 /// A long track comes by standard input.
 pub fn file_of(track: &Track) -> String {
-    if track.nth % LONG_EVERY == 0 { "-".into() } else { format!("{}.f32", track.nth) }
+    if track.nth.is_multiple_of(LONG_EVERY) { "-".into() } else { format!("{}.f32", track.nth) }
 }
