@@ -127,9 +127,8 @@ fn outputs(folder: &Folder) -> (bool, bool) {
 }
 
 pub fn compare(groups: &mut Groups) {
+    groups.group("the tool's refusals", CASES.into_iter(), |case| seen(&filled(), &case), wanted);
     let folder = filled();
-    let refusals = CASES.into_iter();
-    groups.group("the tool's refusals", refusals, |case| seen(&folder, &case), wanted);
     groups.group("the tool's good runs", 0..GOOD.len(), |nth| ends_well(&folder, GOOD[nth]), |_| true);
     groups.group("the tool's outputs", [0u32].into_iter(), |_| outputs(&folder), |_| (true, true));
 }
