@@ -1,3 +1,3 @@
-mod Spans
+pub mod Spans
 mod Squares
-mod Resonators
+pub mod Resonators

@@ -68,7 +68,7 @@ fn run_lane(samples: &[f32], windows: &[f32], lane: Lane, from: usize, delay: De
 }
 
 // What a resonator's delayed values make of its lane: power over the square of the count.
-fn power_per_count(lane: Lane, delay: Delay) -> f32
+pub fn power_per_count(lane: Lane, delay: Delay) -> f32
     requires { ⌜ lane .count < 0x1_0000_0000 ⌝ }
     ensures { λ r. ⌜ r ≡ perCount (lane .count) (lastPower (lane .coefficient) delay) ⌝ }
 {
@@ -98,7 +98,7 @@ pub fn lane_power(samples: &[f32], windows: &[f32], lane: Lane) -> f32
 }
 
 // Four resonators after value i of each lane.
-fn step_four(samples: &[f32], windows: &[f32], lanes: Lanes, i: usize, delays: Delays) -> Delays
+pub fn step_four(samples: &[f32], windows: &[f32], lanes: Lanes, i: usize, delays: Delays) -> Delays
     requires { ⌜ FourLie (length (now samples)) (length (now windows)) lanes × (i < fewestOf lanes) ⌝ }
     ensures { λ r. ⌜ r ≡ steppedFour (now (samples .entry)) (now (windows .entry)) lanes i delays ⌝ }
 {

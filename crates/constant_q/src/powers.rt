@@ -40,7 +40,7 @@ fn lane_around(samples: usize, centre: usize, size: u32, coefficient: f32, first
 }
 
 // Row k around the centre, whose window begins at `first`, and where the next one's begins.
-fn place(
+pub fn place(
     samples: usize,
     centre: usize,
     lengths: &[u32],
