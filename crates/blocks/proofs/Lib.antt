@@ -1,2 +1,3 @@
 mod Eights
 mod Chromas
+mod Supplies

@@ -1,2 +1,3 @@
 pub mod Eight
 pub mod Block
+pub mod Ahead
