@@ -1,8 +1,8 @@
 -- What a run through the positions left: rows with room for all its frames, no more than there are positions.
-use Prim.Native.Nat.{ℕ, zero, suc, _+_, _≤_}
+use Prim.Native.Nat.{ℕ, zero, suc, _≤_}
 use mathlib.Core.Path.{_≡_, sym, ap, subst, _∙_}
 use mathlib.Core.Bool.{Bool, true, false, cond}
-use mathlib.Core.List.{List, [], _∷_, _++_}
+use mathlib.Core.List.{[], _∷_, _++_}
 use native.Mathlib.Omega.{arith}
 use lib.Dec.{ltb}
 use lib.ListN.{length, length-append}
@@ -12,7 +12,7 @@ use Rattle.laws.proofs.First.{first-within}
 use Rattle.calls.specs.Call.{Call}
 use Rattle.calls.specs.Rows.{Rows}
 use Rattle.frames.specs.Frame.{loud}
-use Rattle.frames.specs.Run.{energyAt, frameRow, notFiniteAt, loudBefore, holding, Run, ran, runOf}
+use Rattle.frames.specs.Run.{energyAt, frameRow, notFiniteAt, loudBefore, Run, ran, runOf}
 use Rattle.frames.specs.declared.frame.Row.{Row}
 use Rattle.frames.specs.declared.run.Filled.{Filled}
 use Rattle.frames.specs.declared.run.Filled.the-variants.{All, NotFinite}

@@ -2,8 +2,8 @@
 use Prim.Native.Nat.{ℕ, _+_, _-_, _*_, _/_, _<_, _≤_}
 use mathlib.Core.Path.{_≡_, refl, sym, ap, subst, _∙_}
 use mathlib.Core.Bool.{Bool, true, false, cond}
-use mathlib.Core.List.{[], _∷_, _++_}
-use native.Mathlib.Nat.{mul-le-mul-right, div-mul-le-self, le-trans}
+use mathlib.Core.List.{List, [], _∷_, _++_}
+use native.Mathlib.Nat.{mul-le-mul-right, div-mul-le-self, le-trans, not-suc-le-zero}
 use native.Mathlib.Numerals.{add-one}
 use native.Mathlib.Omega.{arith}
 use borrow.Author.Tests.{lt-ltb, le-ltb}
@@ -15,7 +15,12 @@ use Rattle.laws.proofs.First.{first-start, first-again, first-out, first-end}
 use Rattle.laws.proofs.Column.{Column, column-start, column-more}
 use Rattle.calls.specs.Call.{Call}
 use Rattle.calls.specs.Rows.{Rows, rows}
-use Rattle.frames.specs.Frame.{loud, rowOf, whole}
+use Rattle.goertzel.specs.Goertzel.{goertzelAt}
+use Rattle.constant_q.specs.ConstantQ.{constantQAt}
+use Rattle.blocks.specs.Ahead.{Centred, Tuned, Ahead, Supplied}
+use Rattle.blocks.specs.declared.ahead.Held.{Held}
+use Rattle.blocks.specs.declared.ahead.Handed.{Handed}
+use Rattle.frames.specs.Frame.{loud, middleOf, chromaAt, rowFrom, rowOf, whole}
 use Rattle.frames.specs.Run.{energyAt, frameRow, notFiniteAt, loudBefore, put, holding, ran, runTo, runOf, Ready}
 use Rattle.frames.specs.declared.frame.Row.{Row}
 use Rattle.frames.specs.declared.run.Filled.{Filled}
@@ -72,9 +77,10 @@ module _ {c : Call} {positions : ℕ} {before now : Rows} {k n : ℕ} (reached :
   pub heard : {energy : Float} {flag answer : Bool} → energy ≡ energyAt c k → flag ≡ loud energy → flag ≡ answer → loud (energyAt c k) ≡ answer
   heard e f t = sym (ap loud e) ∙ sym f ∙ t
 
-  pub row-is : {energy : Float} {row : Row} → energy ≡ energyAt c k → row ≡ rowOf c (k * c .settings .«hop_size») energy → row ≡ frameRow c k
-  unfolding frameRow
-  row-is e r = r ∙ ap (rowOf c (k * c .settings .«hop_size»)) e
+  pub row-is : {energy : Float} {constant : List Float} {row : Row} → energy ≡ energyAt c k → constant ≡ constantQAt c (middleOf (c .settings) (k * c .settings .«hop_size»))
+      → row ≡ rowFrom (c .settings) (k * c .settings .«hop_size») energy (goertzelAt c (k * c .settings .«hop_size»)) constant → row ≡ frameRow c k
+  unfolding frameRow rowOf chromaAt
+  row-is e q r = rw (r, e, q) refl
 
   pub judged : {row : Row} {flag answer : Bool} → row ≡ frameRow c k → flag ≡ whole row → flag ≡ answer → whole (frameRow c k) ≡ answer
   judged e f t = sym (ap whole e) ∙ sym f ∙ t
@@ -127,3 +133,30 @@ module _ {c : Call} {positions : ℕ} {before now : Rows} {k n : ℕ} (reached :
 
   pub reached-end : positions ≤ k → ran (All n) now ≡ runOf c positions before
   reached-end h = left-at false (le-ltb _ _ h) (first-end (notFiniteAt c) positions k (reached .ahead) h)
+
+-- ---- the constant-Q chromas computed ahead
+
+-- constant-Q's chroma at position k
+abbrev pub constantOf : Call → ℕ → List Float
+constantOf c k = constantQAt c (middleOf (c .settings) (k * c .settings .«hop_size»))
+
+-- what the block holds, none of it for a position behind k alone
+pub record Stocked (c : Call) (held : Held) (block : List (List Float)) (k : ℕ) : Type 0 where
+  pub ahead : Ahead (constantOf c) held block
+  pub begun : held .first ≤ k
+
+pub stocked-start : (c : Call) {block : List (List Float)} → length block ≡ 8 → Stocked c (record { first = 0; count = 0 }) block 0
+stocked-start c long = record { ahead = record { long = long; few = omega arith; entries = λ (j : ℕ) (l : j < 0). absurd (not-suc-le-zero l) }; begun = omega arith }
+
+pub stocked-quiet : {c : Call} {held : Held} {block : List (List Float)} {k : ℕ} → Stocked c held block k → Stocked c held block (k + 1)
+stocked-quiet {k = k} s = let b = s .begun in record { ahead = s .ahead; begun = omega arith }
+
+pub stocked-loud : {c : Call} {h : Handed} {block : List (List Float)} {k : ℕ} → Supplied (constantOf c) k h block → Stocked c (h .held) block (k + 1)
+stocked-loud s = let b = s .begun in record { ahead = s .ahead; begun = omega arith }
+
+-- every position's centre lies on the track, and the rows are as the supply takes them
+pub centred : {c : Call} {before : Rows} {positions : ℕ} → Ready c before positions → Centred (length (c .samples)) (c .settings .«frame_size» / 2) (c .settings .«hop_size») positions
+centred ready = record { on = λ (k : ℕ) (h : k < _). let fits = frame-fits k ready h in omega arith }
+
+pub tuned : {c : Call} {before : Rows} {positions : ℕ} → Ready c before positions → Tuned (c .sheet .constantQLengths) (c .sheet .constantQCoefficients) (length (c .sheet .constantQWindows))
+tuned ready = let f = ready .formed in record { alike = f .constantQAlike; few = f .constantQFew; joined = sym (f .joined) }

@@ -41,6 +41,10 @@ chromaAt c start = blendOf (goertzelAt c start) (constantQAt c (middleOf (c .set
 unfoldable pub centreOf : Settings → ℕ → Float
 centreOf s start = div binary64 (ofInt binary64 (pos (middleOf s start))) (ofInt binary64 (pos (s .rate)))
 
+-- the row of a frame whose energy and two chromas are known
+abbrev pub rowFrom : Settings → ℕ → Float → List Float → List Float → Row
+rowFrom s start energy goertzel constant = record { centre = centreOf s start; values = blendOf goertzel constant; energy = energy }
+
 -- the row of a frame whose energy is known
 unfoldable pub rowOf : Call → ℕ → Float → Row
 rowOf c start energy = record { centre = centreOf (c .settings) start; values = chromaAt c start; energy = energy }

@@ -2,13 +2,11 @@
 ghost use mathlib.Core.Path.{_≡_};
 ghost use Prim.Native.Nat.{_+_, _^_, _<_, _≤_};
 ghost use lib.ListN.{length};
-ghost use Rattle.calls.specs.Call.{given, lentSheet};
-ghost use Rattle.sheets.specs.Sheet.{Formed};
-ghost use Rattle.frames.specs.Frame.{energyOf, loud, chromaAt, centreOf, rowOf, whole};
+ghost use Rattle.goertzel.specs.Goertzel.{goertzelOf};
+ghost use Rattle.frames.specs.Blend.{blendOf};
+ghost use Rattle.frames.specs.Frame.{energyOf, loud, centreOf, rowFrom, whole};
 use crate::blend::blend;
 use calls::Settings;
-use calls::SheetHead;
-use constant_q::chroma::constant_q_chroma;
 use goertzel::goertzel_chroma;
 use numbers::single::is_finite;
 
@@ -44,27 +42,21 @@ pub fn is_loud(energy: f32) -> bool
     energy > 1.0e-8
 }
 
-// The chroma of the frame that starts at `start`.
+// The chroma of the frame that starts at `start`, whose constant-Q chroma is known.
 fn frame_chroma(
-    settings: Settings,
-    head: SheetHead,
+    lowest: u8,
     samples: &[f32],
     window: &[f32],
     coefficients: &[f32],
     weights: &[f32],
-    lengths: &[u32],
-    qcoefficients: &[f32],
-    qwindows: &[f32],
     start: usize,
+    constant: [f32; 12],
 ) -> [f32; 12]
-    requires { ⌜ (start + settings .«frame_size» ≤ length (now samples)) × (head .«frame_size» ≡ settings .«frame_size») × Formed (lentSheet head window coefficients weights lengths qcoefficients qwindows) ⌝ }
-    ensures { λ r. ⌜ r ≡ chromaAt (given settings head (samples .entry) (window .entry) (coefficients .entry) (weights .entry) (lengths .entry) (qcoefficients .entry) (qwindows .entry)) start ⌝ }
+    requires { ⌜ (start + length (now window) ≤ length (now samples)) × (length (now coefficients) ≡ length (now weights)) × (length (now weights) ≤ 256) ⌝ }
+    ensures { λ r. ⌜ r ≡ blendOf (goertzelOf lowest (now (window .entry)) (now (coefficients .entry)) (now (weights .entry)) (now (samples .entry)) start) constant ⌝ }
 {
-    let lowest = head.minimum_midi_note;
-    let centre = start + settings.frame_size / 2;
     let first = goertzel_chroma(lowest, samples, start, window, coefficients, weights);
-    let second = constant_q_chroma(lowest, samples, centre, lengths, qcoefficients, qwindows);
-    blend(&first, &second)
+    blend(&first, &constant)
 }
 
 // The middle of a frame, in seconds.
@@ -76,35 +68,30 @@ fn frame_centre(settings: Settings, start: usize) -> f64
     std::num::nearest_u64_to_f64(middle as u64) / std::num::nearest_u64_to_f64(settings.rate as u64)
 }
 
-// The row of the frame that starts at `start` and has this energy.
+// The row of the frame that starts at `start` and has this energy and this constant-Q chroma.
 pub fn frame_row(
     settings: Settings,
-    head: SheetHead,
+    lowest: u8,
     samples: &[f32],
     window: &[f32],
     coefficients: &[f32],
     weights: &[f32],
-    lengths: &[u32],
-    qcoefficients: &[f32],
-    qwindows: &[f32],
     start: usize,
     energy: f32,
+    constant: [f32; 12],
 ) -> Row
-    requires { ⌜ (start + settings .«frame_size» ≤ length (now samples)) × (head .«frame_size» ≡ settings .«frame_size») × Formed (lentSheet head window coefficients weights lengths qcoefficients qwindows) ⌝ }
-    ensures { λ r. ⌜ r ≡ rowOf (given settings head (samples .entry) (window .entry) (coefficients .entry) (weights .entry) (lengths .entry) (qcoefficients .entry) (qwindows .entry)) start energy ⌝ }
+    requires { ⌜ (start + settings .«frame_size» ≤ length (now samples)) × (length (now window) ≡ settings .«frame_size») × (length (now coefficients) ≡ length (now weights)) × (length (now weights) ≤ 256) ⌝ }
+    ensures { λ r. ⌜ r ≡ rowFrom settings start energy (goertzelOf lowest (now (window .entry)) (now (coefficients .entry)) (now (weights .entry)) (now (samples .entry)) start) constant ⌝ }
 {
     let centre = frame_centre(settings, start);
     let values = frame_chroma(
-        settings,
-        head,
+        lowest,
         samples,
         window,
         coefficients,
         weights,
-        lengths,
-        qcoefficients,
-        qwindows,
         start,
+        constant,
     );
     Row {
         centre,

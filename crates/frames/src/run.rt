@@ -10,6 +10,8 @@ use crate::frame::frame_energy;
 use crate::frame::frame_row;
 use crate::frame::is_loud;
 use crate::frame::is_whole;
+use blocks::ahead::Held;
+use blocks::ahead::supply;
 use calls::Settings;
 use calls::SheetHead;
 
@@ -52,6 +54,8 @@ pub fn fill_rows(
 {
     let frame = settings.frame_size;
     let hop = settings.hop_size;
+    let mut block = [[0.0; 12]; 8];
+    let mut held = Held { first: 0, count: 0 };
     let mut k = 0;
     let mut n = 0;
     while k < positions {
@@ -59,18 +63,32 @@ pub fn fill_rows(
         let next = k + 1;
         let energy = frame_energy(samples, start, frame);
         if is_loud(energy) {
+            let lowest = head.minimum_midi_note;
+            let handed = supply(
+                lowest,
+                samples,
+                frame / 2,
+                hop,
+                lengths,
+                qcoefficients,
+                qwindows,
+                positions,
+                k,
+                held,
+                &mut block,
+            );
+            held = handed.held;
+            let constant = handed.chroma;
             let row = frame_row(
                 settings,
-                head,
+                lowest,
                 samples,
                 window,
                 coefficients,
                 weights,
-                lengths,
-                qcoefficients,
-                qwindows,
                 start,
                 energy,
+                constant,
             );
             if !is_whole(row) {
                 return Filled::NotFinite(k, n);

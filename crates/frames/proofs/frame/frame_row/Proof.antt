@@ -1,5 +1,4 @@
 -- By its two callees.
-use Rattle.frames.specs.Frame.{rowOf}
 use borrow.Author.Needs.{needs}
 use Rattle.frames.proofs.frame.frame_row.Statement.{statement}
 use Rattle.frames.proofs.frame.frame_row.Tie as tie
@@ -11,7 +10,6 @@ frame-chroma-requires : tie.Need-frame-chroma-requires
 frame-chroma-requires c κs = search needs
 
 returns : tie.Need-returns
-unfolding rowOf
 returns c = cc
 
 pub frame-row-spec : {M : Type 1} → statement M
