@@ -1,7 +1,7 @@
 -- The definition itself.
 use borrow.Author.Needs.{needs}
-use Rattle.goertzel.proofs.row_at.Statement.{statement}
-use Rattle.goertzel.proofs.row_at.Tie as tie
+use Rattle.goertzel.proofs.rows.row_at.Statement.{statement}
+use Rattle.goertzel.proofs.rows.row_at.Tie as tie
 
 mul-t4 : tie.Need-mul-t4
 mul-t4 c = search needs

@@ -1,0 +1,80 @@
+-- The room is written from the front, a row a turn.
+use borrow.Author.Needs.{needs}
+use Rattle.goertzel.proofs.rows.last_magnitudes.Statement.{statement}
+use Rattle.goertzel.proofs.rows.last_magnitudes.Tie as tie
+use native.Mathlib.Omega.{arith}
+use Prim.Native.Nat.{ℕ, _≤_, _-_}
+use lib.ListN.{length}
+use Rattle.laws.proofs.Front.{Filled, filled-start, filled-more, filled-to}
+use Rattle.goertzel.specs.Goertzel.{rowAt}
+use Rattle.goertzel.specs.Rows.{delays, delayAt, lastMagnitude, lastMagnitudes}
+
+abbrev Inv-loop : tie.InvT-loop
+Inv-loop coefficients weights last before room₀ k₀ room k = (k ≤ length coefficients) × Filled (λ (j : ℕ). lastMagnitude (rowAt coefficients weights j) (delayAt (delays last before) j)) room₀ room k
+
+abbrev μ-loop : tie.MeasureT-loop
+μ-loop coefficients weights last before room₀ k₀ room k = length coefficients - k
+
+loop-holds : tie.Need-loop-holds Inv-loop μ-loop
+loop-holds c = (omega arith, filled-start _ _)
+
+row-at-requires : tie.Need-row-at-requires Inv-loop μ-loop
+row-at-requires c κs = search needs
+
+mul-room : tie.Need-mul-room Inv-loop μ-loop
+mul-room c = search needs
+
+shared-slice-read-room : tie.Need-shared-slice-read-room Inv-loop μ-loop
+shared-slice-read-room c = search needs
+
+mul-t13 : tie.Need-mul-t13 Inv-loop μ-loop
+mul-t13 c = search needs
+
+shared-slice-read-t15 : tie.Need-shared-slice-read-t15 Inv-loop μ-loop
+shared-slice-read-t15 c = search needs
+
+last-magnitude-requires : tie.Need-last-magnitude-requires Inv-loop μ-loop
+last-magnitude-requires c κs = search needs
+
+mul-room-2 : tie.Need-mul-room-2 Inv-loop μ-loop
+mul-room-2 c = search needs
+
+slice-write-room : tie.Need-slice-write-room Inv-loop μ-loop
+slice-write-room c = search needs
+
+add-k : tie.Need-add-k Inv-loop μ-loop
+add-k c = search needs
+
+loop-less : tie.Need-loop-less Inv-loop μ-loop
+loop-less c = search needs
+
+loop-again : tie.Need-loop-again Inv-loop μ-loop
+loop-again c = let turn = c .before .before .before .before .before .loop in (omega arith, rw (c .last-magnitude .ensures, c .before .before .before .row-at .ensures) (filled-more _ _ _ (turn .k) (turn .inv .1) (omega arith)))
+
+same-length : tie.Need-same-length Inv-loop μ-loop
+same-length c = search needs
+
+returns : tie.Need-returns Inv-loop μ-loop
+unfolding lastMagnitudes
+returns c = let end = c .before .loop in filled-to _ _ _ (end .k) _ (end .inv .1) (omega arith)
+
+pub last-magnitudes-spec : {M : Type 1} → statement M
+last-magnitudes-spec =
+    tie.close
+    (tie.spec
+    Inv-loop
+    μ-loop
+    loop-holds
+    row-at-requires
+    mul-room
+    shared-slice-read-room
+    mul-t13
+    shared-slice-read-t15
+    last-magnitude-requires
+    mul-room-2
+    slice-write-room
+    add-k
+    loop-less
+    loop-again
+    same-length
+    returns)

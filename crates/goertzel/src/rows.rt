@@ -1,0 +1,111 @@
+// All rows' resonators side by side over one frame, and the magnitudes that they end with.
+ghost use mathlib.Core.Path.{_≡_};
+ghost use Prim.Native.Nat.{_+_, _<_, _≤_};
+ghost use lib.ListN.{length};
+ghost use Rattle.laws.specs.Front.{front};
+ghost use Rattle.goertzel.specs.Goertzel.{frameValue, rowAt, magnitudesOf};
+ghost use Rattle.goertzel.specs.Rows.{lentDelays, steppedRows, runRows, lastMagnitude, lastMagnitudes};
+use filters::resonator::Delay;
+use filters::resonator::GoertzelRow;
+use filters::resonator::power;
+use filters::resonator::step;
+use filters::resonator::windowed;
+use numbers::single::larger;
+use roots::square_root;
+
+// The sheet's row for the lowest note plus k.
+pub fn row_at(coefficients: &[f32], weights: &[f32], k: usize) -> GoertzelRow
+    requires { ⌜ (k < length (now coefficients)) × (k < length (now weights)) ⌝ }
+    ensures { λ r. ⌜ r ≡ rowAt (now (coefficients .entry)) (now (weights .entry)) k ⌝ }
+{
+    GoertzelRow {
+        coefficient: coefficients[k],
+        weight: weights[k],
+    }
+}
+
+// One value more through every row's resonator.
+fn step_rows(coefficients: &[f32], x: f32, last: &mut [f32], before: &mut [f32])
+    requires { ⌜ (length (now coefficients) ≤ length (now last)) × (length (now coefficients) ≤ length (now before)) ⌝ }
+    ensures { λ _. ⌜ lentDelays (last .exit) (before .exit) ≡ steppedRows (now (coefficients .entry)) x (lentDelays (last .entry) (before .entry)) ⌝ }
+{
+    let mut k = 0;
+    while k < coefficients.len() {
+        let delay = Delay {
+            last: last[k],
+            before: before[k],
+        };
+        let next = step(delay, coefficients[k], x);
+        last[k] = next.last;
+        before[k] = next.before;
+        k += 1;
+    }
+}
+
+// The frame that starts at `start`, through every row's resonator.
+fn run_rows(
+    samples: &[f32],
+    start: usize,
+    window: &[f32],
+    coefficients: &[f32],
+    last: &mut [f32],
+    before: &mut [f32],
+)
+    requires { ⌜ (start + length (now window) ≤ length (now samples)) × (length (now coefficients) ≤ length (now last)) × (length (now coefficients) ≤ length (now before)) ⌝ }
+    ensures { λ _. ⌜ lentDelays (last .exit) (before .exit) ≡ runRows (now (coefficients .entry)) (frameValue (now (samples .entry)) start (now (window .entry))) (length (now (window .entry))) (lentDelays (last .entry) (before .entry)) ⌝ }
+{
+    let mut i = 0;
+    while i < window.len() {
+        let x = windowed(samples[start + i], window[i]);
+        step_rows(coefficients, x, last, before);
+        i += 1;
+    }
+}
+
+// The magnitude of a row's note, from what its resonator ends with.
+fn last_magnitude(row: GoertzelRow, delay: Delay) -> f32
+    ensures { λ r. ⌜ r ≡ lastMagnitude row delay ⌝ }
+{
+    square_root(larger(power(delay, row.coefficient), 0.0))
+}
+
+// The magnitudes of all rows, from what their resonators end with.
+fn last_magnitudes(
+    coefficients: &[f32],
+    weights: &[f32],
+    last: &[f32],
+    before: &[f32],
+    room: &mut [f32],
+)
+    requires { ⌜ (length (now coefficients) ≤ length (now weights)) × (length (now coefficients) ≤ length (now last)) × (length (now coefficients) ≤ length (now before)) × (length (now coefficients) ≤ length (now room)) ⌝ }
+    ensures { λ _. ⌜ now (room .exit) ≡ front (lastMagnitudes (now (coefficients .entry)) (now (weights .entry)) (lentDelays (last .entry) (before .entry))) (now (room .entry)) ⌝ }
+{
+    let mut k = 0;
+    while k < coefficients.len() {
+        let row = row_at(coefficients, weights, k);
+        let delay = Delay {
+            last: last[k],
+            before: before[k],
+        };
+        room[k] = last_magnitude(row, delay);
+        k += 1;
+    }
+}
+
+// The magnitudes of all rows, from the front of `room`.
+pub fn write_magnitudes(
+    samples: &[f32],
+    start: usize,
+    window: &[f32],
+    coefficients: &[f32],
+    weights: &[f32],
+    room: &mut [f32],
+)
+    requires { ⌜ (start + length (now window) ≤ length (now samples)) × (length (now coefficients) ≤ length (now weights)) × (length (now coefficients) ≤ length (now room)) × (length (now coefficients) ≤ 256) ⌝ }
+    ensures { λ _. ⌜ now (room .exit) ≡ front (magnitudesOf (now (samples .entry)) start (now (window .entry)) (now (coefficients .entry)) (now (weights .entry))) (now (room .entry)) ⌝ }
+{
+    let mut last = [0.0; 256];
+    let mut before = [0.0; 256];
+    run_rows(samples, start, window, coefficients, &mut last, &mut before);
+    last_magnitudes(coefficients, weights, &last, &before, room);
+}
