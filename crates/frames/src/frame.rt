@@ -27,9 +27,8 @@ pub fn frame_energy(samples: &[f32], start: usize, size: usize) -> f32
     while i < size {
         let x = samples[start + i];
         let next = i + 1;
-        if is_finite(x) {
-            sum = sum + x * x;
-        }
+        let square = if is_finite(x) { x * x } else { -0.0 };
+        sum = sum + square;
         i = next;
     }
     sum / std::num::nearest_u32_to_f32(size as u32)

@@ -7,8 +7,8 @@ use native.Mathlib.Omega.{arith}
 use mathlib.Core.Bool.{Bool, true, false, not, _&&_, Bool·beq, cond}
 use lib.Dec.{T, ltb, nltb→le}
 use lib.Arith.{le→nltb}
-use lib.Ieee.{Float, nan, inf, fin, Format, binary32, binary64, up, down, round, sum, add, sub, div, eq, le, fits}
-use lib.Ieee.Fits.{down-pos}
+use lib.Ieee.{Float, nan, inf, fin, Format, binary32, binary64, up, down, round, sum, add, sub, neg, div, eq, le, fits}
+use lib.Ieee.Fits.{down-pos, neg-fits}
 use lib.Ieee.Bits.{is-false}
 use lib.Ieee.Scale.{finite}
 use borrow.Author.Tests.{le-ltb}
@@ -16,6 +16,8 @@ use lib.Ieee.Positive.{num, den, positive}
 use Rattle.laws.specs.Values.{clear, nonneg, plusZero, minusZero, one, Held}
 use Rattle.laws.proofs.Cases.{by-test}
 use Rattle.laws.proofs.Order.{le-refl}
+use Rattle.laws.proofs.Signs.{neg-round}
+use Rattle.laws.proofs.Swap.{add-swap}
 use Rattle.laws.proofs.Nonneg.{nonneg→clear, clear→ordered, nonneg→ordered, greatest, cross→le, add-rounds, add-mono, add-inf-left, add-inf-right, sub-rounds, sub-mono, positive→nonneg, nonneg-under, rounds-mono, div-rounds, le→cross}
 use Rattle.laws.proofs.Held.{held-rounds, rounds-back}
 
@@ -56,6 +58,14 @@ minusZero-add f nan c = absurd c
 minusZero-add f (inf s) c = refl
 minusZero-add f (fin true n d) c = absurd c
 minusZero-add f (fin false n d) c = signless f (0 * down d) (n * up d * 1) (1 * down d) (zero-mul (down d))
+
+-- to whatever it is added, a NaN and -0 too
+pub add-minusZero : (f : Format) (x : Float) → T (fits f x) → add f x minusZero ≡ x
+unfolding add sum neg
+add-minusZero f nan h = refl
+add-minusZero f (inf s) h = refl
+add-minusZero f (fin false m e) h = add-swap f (fin false m e) minusZero ∙ minusZero-add f (fin false m e) tt ∙ plusZero-add f (fin false m e) h tt
+add-minusZero f (fin true m e) h = sym (neg-round f _ _) ∙ ap neg (add-plusZero f (fin false m e) (neg-fits f (fin true m e) h) tt)
 
 pub sub-plusZero : (f : Format) (x : Float) → Held f x → sub f x plusZero ≡ x
 sub-plusZero f x h = rounds-back x h (sub-rounds f x plusZero (h .at-least-zero) tt (plusZero-least x (nonneg→clear x (h .at-least-zero)))) (simp (mul-one, zero-mul, sub-zero))

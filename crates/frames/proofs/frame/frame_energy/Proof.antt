@@ -1,28 +1,40 @@
--- `frame_energy` meets its contract: a sample a turn.
+-- `frame_energy` meets its contract: a sample a turn, and -0 added for one that is not finite changes nothing.
 use borrow.Author.Needs.{needs}
 use native.Mathlib.Omega.{arith}
 use Prim.Native.Nat.{_+_, _≤_, _-_}
 use lib.ListN.{getD}
-use mathlib.Core.Path.{_≡_, sym, _∙_}
+use mathlib.Core.Path.{_≡_, refl, sym, _∙_}
+use mathlib.Core.Logic.{⊎-elim}
 use Rattle.laws.specs.Turns.{turns}
 use Rattle.laws.proofs.Turns.{turns-start, turns-again, turns-end}
 use Rattle.frames.specs.Frame.{energyTurn, energyOf}
 use lib.Ieee.Scale.{finite}
 use Rattle.laws.specs.Values.{minusZero}
-use lib.Ieee.{nan, ofBits, neg}
-use mathlib.Core.Bool.{true, false}
+use lib.Dec.{T}
+use lib.Ieee.{Float, nan, binary32, ofBits, neg, add, mul, fits}
+use lib.Ieee.Fits.{add-fits}
+use Rattle.laws.proofs.Zero.{add-minusZero}
+use mathlib.Core.Bool.{true, false, cond}
 use Rattle.frames.proofs.frame.frame_energy.Statement.{statement}
 use Rattle.frames.proofs.frame.frame_energy.Tie as tie
 
+-- the two ways of a turn
+module _ (x sum : Float) {square : Float} where
+  finite-added : finite x ≡ true → square ≡ mul binary32 x x → add binary32 sum square ≡ cond (finite x) (add binary32 sum (mul binary32 x x)) sum
+  finite-added told is = rw (told, is) refl
+
+  nothing-added : T (fits binary32 sum) → finite x ≡ false → square ≡ minusZero → add binary32 sum square ≡ cond (finite x) (add binary32 sum (mul binary32 x x)) sum
+  nothing-added held told is = rw (told, is) (add-minusZero binary32 sum held)
+
 abbrev Inv-loop : tie.InvT-loop
-Inv-loop samples start size sum₀ i₀ sum i = (i ≤ size) × (turns (energyTurn samples start) (size - i) i sum ≡ turns (energyTurn samples start) size 0 minusZero)
+Inv-loop samples start size sum₀ i₀ sum i = (i ≤ size) × (turns (energyTurn samples start) (size - i) i sum ≡ turns (energyTurn samples start) size 0 minusZero) × T (fits binary32 sum)
 
 abbrev μ-loop : tie.MeasureT-loop
 μ-loop samples start size sum₀ i₀ sum i = size - i
 
 loop-holds : tie.Need-loop-holds Inv-loop μ-loop
-unfolding ofBits neg
-loop-holds c = (omega arith, turns-start _ _ _)
+unfolding ofBits neg fits
+loop-holds c = (omega arith, turns-start _ _ _, tt)
 
 add-x : tie.Need-add-x Inv-loop μ-loop
 add-x c = search needs
@@ -43,23 +55,14 @@ loop-less : tie.Need-loop-less Inv-loop μ-loop
 loop-less c = search needs
 
 loop-again : tie.Need-loop-again Inv-loop μ-loop
-unfolding energyTurn
+unfolding energyTurn ofBits neg
 loop-again c =
-    let b = c .before .before .before .before in
-    let a = b .before .before .args in
-    let e : finite (getD (a .samples .now) (a .start + b .loop .i) nan) ≡ true = sym (c .before .is-finite .ensures) ∙ c .if1 .taken in
-    (omega arith, turns-again (energyTurn (a .samples .now) (a .start)) (a .size) (b .loop .i) (b .loop .inv .1) (search needs) (rw e))
-
-loop-less-2 : tie.Need-loop-less-2 Inv-loop μ-loop
-loop-less-2 c = search needs
-
-loop-again-2 : tie.Need-loop-again-2 Inv-loop μ-loop
-unfolding energyTurn
-loop-again-2 c =
-    let b = c .before .before .before .before in
-    let a = b .before .before .args in
-    let e : finite (getD (a .samples .now) (a .start + b .loop .i) nan) ≡ false = sym (c .before .is-finite .ensures) ∙ c .if1 .left in
-    (omega arith, turns-again (energyTurn (a .samples .now) (a .start)) (a .size) (b .loop .i) (b .loop .inv .1) (search needs) (rw e))
+    let turn = c .before .before .before .before in
+    let a = turn .before .before .args in
+    let x = getD (a .samples .now) (a .start + turn .loop .i) nan in
+    let told = sym (c .before .is-finite .ensures) in
+    let added = ⊎-elim (λ w. finite-added x (turn .loop .sum) (told ∙ w .0 .taken) (w .1)) (λ w. nothing-added x (turn .loop .sum) (turn .loop .inv .2) (told ∙ w .0 .left) (w .1)) (c .if1 .came) in
+    (omega arith, turns-again (energyTurn (a .samples .now) (a .start)) (a .size) (turn .loop .i) (turn .loop .inv .1) (search needs) added, add-fits binary32 (turn .loop .sum) (c .if1 .square))
 
 cast-nearest-u32-to-f32 : tie.Need-cast-nearest-u32-to-f32 Inv-loop μ-loop
 cast-nearest-u32-to-f32 c = search needs
@@ -89,8 +92,6 @@ frame-energy-spec =
     is-finite-requires
     loop-less
     loop-again
-    loop-less-2
-    loop-again-2
     cast-nearest-u32-to-f32
     nearest-u32-to-f32-requires
     returns)
