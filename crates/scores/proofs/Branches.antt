@@ -1,29 +1,15 @@
 -- From what a function's callees and tests say to its definition, on plain values.
 use mathlib.Core.Path.{_≡_, sym, ap, _∙_}
-use Prim.Native.Nat.{ℕ}
 use mathlib.Core.Bool.{Bool, true, false, not, _&&_, cond}
 use mathlib.Core.List.{List}
-use lib.Ieee.{Float, binary32, ofBits, sub, mul, div, lt}
+use lib.Ieee.{Float, binary32, ofBits, sub, div, lt}
 use Rattle.laws.specs.Values.{magnitudeOf, plusZero, one, epsilon}
-use Rattle.laws.specs.Pick.{maximumNumber, clampedTo}
-use Rattle.numbers.specs.Sum.{sumOf}
-use Rattle.roots.specs.Root.{rootOf}
+use Rattle.laws.specs.Pick.{clampedTo}
 use Rattle.keys.specs.Numbers.{areRelativeKeys}
-use Rattle.scores.specs.declared.correlation.Sums.{Sums}
 use Rattle.scores.specs.declared.places.Place.{Place}
 use Rattle.scores.specs.declared.places.Places.{Places}
 use Rattle.scores.specs.Places.{ranked, placed}
-use Rattle.scores.specs.Correlation.{sumsOf, quotientOf, correlationOf}
 use Rattle.scores.specs.Classify.{louder, chosenKey, confidenceOf}
-
--- a correlation, from its means, sums, root and divisor
-pub correlated : (chroma profile : List Float) (root : ℕ) {mean weight spread divisor : Float} {s : Sums}
-    → mean ≡ sumOf 12 chroma → weight ≡ sumOf 12 profile
-    → s ≡ sumsOf chroma profile root (div binary32 mean (ofBits binary32 0x4140_0000)) (div binary32 weight (ofBits binary32 0x4140_0000))
-    → spread ≡ rootOf (mul binary32 (s .chroma) (s .profile)) → divisor ≡ maximumNumber spread epsilon
-    → div binary32 (s .products) divisor ≡ correlationOf chroma profile root
-unfolding correlationOf quotientOf
-correlated chroma profile root {s} m w e r d = rw (d, r, e, m, w)
 
 -- the places, by the test that a score passes
 module _ (p : Places) (candidate : Place) where

@@ -1,4 +1,4 @@
 -- What the functions' proofs share, on plain values.
 mod Branches
-mod Summed
+mod Turned
 pub mod Counted

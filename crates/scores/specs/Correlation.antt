@@ -42,14 +42,6 @@ sumsOf chroma profile root mean weight = record {
   profile = turns (profileTurn profile root weight) 12 0 plusZero;
 }
 
--- what one pitch class adds to the three, with each side's distance from its mean
-unfoldable pub added : Sums → Float → Float → Sums
-added s chroma profile = record {
-  products = add binary32 (s .products) (mul binary32 chroma profile);
-  chroma = add binary32 (s .chroma) (mul binary32 chroma chroma);
-  profile = add binary32 (s .profile) (mul binary32 profile profile);
-}
-
 -- the products over the root of both squares, which is held up by epsilon
 unfoldable pub quotientOf : Sums → Float
 quotientOf s = div binary32 (s .products) (maximumNumber (rootOf (mul binary32 (s .chroma) (s .profile))) epsilon)

@@ -1,31 +1,66 @@
 // A key's score: the mean of its correlations with four profiles.
 ghost use mathlib.Core.Path.{_≡_};
 ghost use Prim.Native.Nat.{_<_};
-ghost use Rattle.scores.specs.Scores.{scoreOf, scoresOf};
-use crate::correlation::correlation;
+ghost use Rattle.scores.specs.Profiles.{profileAt};
+ghost use Rattle.scores.specs.Distances.{wheelOf};
+ghost use Rattle.scores.specs.Lanes.{addedAll, modeSums};
+ghost use Rattle.scores.specs.Scores.{scoresOf};
+use crate::correlation::correlations;
+use crate::distances::distances;
+use crate::distances::energy;
+use crate::distances::wheel;
+use crate::profiles::PROFILES;
 
-// The score of the key with this root; the mode is 0 for major and 1 for minor.
-fn score(chroma: &[f32; 12], mode: usize, root: usize) -> f32
-    requires { ⌜ (mode < 2) × (root < 12) ⌝ }
-    ensures { λ r. ⌜ r ≡ scoreOf (now (chroma .entry)) mode root ⌝ }
+// The wheel of the profile in a row of the table.
+fn wheel_at(row: usize) -> [f32; 23]
+    requires { ⌜ row < 8 ⌝ }
+    ensures { λ r. ⌜ r ≡ wheelOf (profileAt row) ⌝ }
 {
-    let mut sum = 0.0;
+    let profile = PROFILES[row];
+    wheel(&profile)
+}
+
+// Twelve sums with one value more each.
+fn add_twelve(sums: &[f32; 12], more: &[f32; 12]) -> [f32; 12]
+    ensures { λ r. ⌜ r ≡ addedAll (now (sums .entry)) (now (more .entry)) ⌝ }
+{
+    let mut added = [0.0; 12];
+    let mut i = 0;
+    while i < 12 {
+        added[i] = sums[i] + more[i];
+        i += 1;
+    }
+    added
+}
+
+// The correlations with the four profiles of a mode together, by root; the mode is 0 for major and 1
+// for minor.
+fn sum_mode(away: &[f32; 12], chroma: f32, mode: usize) -> [f32; 12]
+    requires { ⌜ mode < 2 ⌝ }
+    ensures { λ r. ⌜ r ≡ modeSums (now (away .entry)) chroma mode ⌝ }
+{
+    let mut sums = [0.0; 12];
     let mut p = 0;
     while p < 4 {
-        sum += correlation(chroma, 2 * p + mode, root);
+        let wheel = wheel_at(2 * p + mode);
+        let more = correlations(away, chroma, &wheel);
+        sums = add_twelve(&sums, &more);
         p += 1;
     }
-    sum / 4.0
+    sums
 }
 
 // The 24 scores by key number: twelve major, then twelve minor.
 pub fn score_keys(chroma: &[f32; 12]) -> [f32; 24]
     ensures { λ r. ⌜ r ≡ scoresOf (now (chroma .entry)) ⌝ }
 {
+    let away = distances(chroma);
+    let squares = energy(&away);
+    let sums = [sum_mode(&away, squares, 0), sum_mode(&away, squares, 1)];
     let mut scores = [0.0; 24];
     let mut k = 0;
     while k < 24 {
-        scores[k] = score(chroma, k / 12, k % 12);
+        scores[k] = sums[k / 12][k % 12] / 4.0;
         k += 1;
     }
     scores

@@ -1,27 +1,48 @@
 -- The array is written from the front, a score a turn.
 use borrow.Author.Needs.{needs}
-use mathlib.Core.Path.{refl}
+use mathlib.Core.Path.{refl, _∙_}
 use native.Mathlib.Omega.{arith}
 use Prim.Native.Nat.{_≤_, _-_}
 use Rattle.laws.proofs.Front.{Filled, filled-start, filled-more, filled-whole}
-use Rattle.scores.specs.Scores.{scoreAt, scoresOf}
+use Rattle.scores.proofs.Turned.{quarter, scored}
 use Rattle.scores.proofs.scoring.score_keys.Statement.{statement}
 use Rattle.scores.proofs.scoring.score_keys.Tie as tie
 
 abbrev Inv-loop : tie.InvT-loop
-Inv-loop chroma scores₀ k₀ scores k = (k ≤ 24) × Filled (scoreAt chroma) scores₀ scores k
+Inv-loop chroma squares sums scores₀ k₀ scores k = (k ≤ 24) × Filled (quarter sums) scores₀ scores k
 
 abbrev μ-loop : tie.MeasureT-loop
-μ-loop chroma scores₀ k₀ scores k = 24 - k
+μ-loop chroma squares sums scores₀ k₀ scores k = 24 - k
+
+distances-requires : tie.Need-distances-requires Inv-loop μ-loop
+distances-requires c κs = search needs
+
+energy-requires : tie.Need-energy-requires Inv-loop μ-loop
+energy-requires c κs = search needs
+
+sum-mode-requires : tie.Need-sum-mode-requires Inv-loop μ-loop
+sum-mode-requires c κs = search needs
+
+sum-mode-requires-2 : tie.Need-sum-mode-requires-2 Inv-loop μ-loop
+sum-mode-requires-2 c κs = search needs
 
 loop-holds : tie.Need-loop-holds Inv-loop μ-loop
 loop-holds c = (omega arith, filled-start _ _)
 
-score-requires : tie.Need-score-requires Inv-loop μ-loop
-score-requires c κs = search needs
-
 mul-scores : tie.Need-mul-scores Inv-loop μ-loop
 mul-scores c = search needs
+
+mul-scores-2 : tie.Need-mul-scores-2 Inv-loop μ-loop
+mul-scores-2 c = search needs
+
+index-1-scores : tie.Need-index-1-scores Inv-loop μ-loop
+index-1-scores c = search needs
+
+index-2-scores : tie.Need-index-2-scores Inv-loop μ-loop
+index-2-scores c = search needs
+
+mul-scores-3 : tie.Need-mul-scores-3 Inv-loop μ-loop
+mul-scores-3 c = search needs
 
 array-write-scores : tie.Need-array-write-scores Inv-loop μ-loop
 array-write-scores c = search needs
@@ -33,13 +54,16 @@ loop-less : tie.Need-loop-less Inv-loop μ-loop
 loop-less c = search needs
 
 loop-again : tie.Need-loop-again Inv-loop μ-loop
-loop-again c =
-    let turn = c .before .before .loop in
-    (omega arith, rw (c .score .ensures) (filled-more _ _ _ (turn .k) (turn .inv .1) (omega arith)))
+loop-again c = (omega arith, filled-more _ _ _ (c .before .before .loop .k) (c .before .before .loop .inv .1) (omega arith))
 
 returns : tie.Need-returns Inv-loop μ-loop
-unfolding scoresOf
-returns c = filled-whole _ _ _ (c .before .loop .k) 24 (c .before .loop .inv .1) (omega arith) refl
+returns c =
+    let minor = c .before .before in
+    let major = minor .before .before in
+    let squares = major .before .before in
+    let away = squares .before .before in
+    filled-whole _ _ _ (c .before .loop .k) 24 (c .before .loop .inv .1) (omega arith) refl
+    ∙ scored (away .before .args .chroma .now) (away .distances .ensures) (squares .energy .ensures) (major .sum-mode .ensures) (minor .sum-mode2 .ensures)
 
 pub score-keys-spec : {M : Type 1} → statement M
 score-keys-spec =
@@ -47,9 +71,16 @@ score-keys-spec =
     (tie.spec
     Inv-loop
     μ-loop
+    distances-requires
+    energy-requires
+    sum-mode-requires
+    sum-mode-requires-2
     loop-holds
-    score-requires
     mul-scores
+    mul-scores-2
+    index-1-scores
+    index-2-scores
+    mul-scores-3
     array-write-scores
     add-k
     loop-less
