@@ -67,6 +67,11 @@ unfolding first
 first-within test zero i = omega arith
 first-within test (suc n) i = by-test (λ (k : ℕ). k ≤ i + suc n) (test i) (λ _. omega arith) (λ _. let rest = first-within test n (i + 1) in omega (arith, rest))
 
+pub first-from : (test : ℕ → Bool) (n i : ℕ) → i ≤ first test n i
+unfolding first
+first-from test zero i = omega arith
+first-from test (suc n) i = by-test (λ (k : ℕ). i ≤ k) (test i) (λ _. omega arith) (λ _. let rest = first-from test n (i + 1) in omega (arith, rest))
+
 -- two tests that agree find the same
 pub first-same : (test other : ℕ → Bool) (n i : ℕ) → ((k : ℕ) → k < n → test (i + k) ≡ other (i + k)) → first test n i ≡ first other n i
 unfolding first

@@ -1,6 +1,6 @@
 -- What the proof of a counted loop cites. A loop `while i < n` has the invariant `turns step (n - i) i s ≡ t`, with t its result:
 -- `turns-start` where it begins, `turns-again` after a turn, `turns-end` where it ends.
-use mathlib.Core.Path.{_≡_, sym, ap, subst, _∙_}
+use mathlib.Core.Path.{_≡_, refl, sym, ap, subst, _∙_}
 use Prim.Native.Nat.{ℕ, zero, suc, _+_, _-_, _<_, _≤_}
 use native.Mathlib.Numerals.{add-one}
 use native.Mathlib.Nat.{add-zero, zero-add}
@@ -46,3 +46,35 @@ turns-keep P step s start more zero = start
 turns-keep P step s start more (suc n) =
     let last : turns step (suc n) 0 s ≡ step n (turns step n 0 s) = ap (λ (k : ℕ). turns step k 0 s) (sym (add-one n)) ∙ turns-last step n s in
     subst (P (suc n)) (sym last) (more n (turns step n 0 s) (turns-keep P step s start more n))
+
+-- m turns, and then n more
+turns-after : {S : Type 0} (step : ℕ → S → S) (m n i : ℕ) (s : S) → turns step (m + n) i s ≡ turns step n (i + m) (turns step m i s)
+unfolding turns
+turns-after step zero n i s = ap (λ (k : ℕ). turns step k i s) (zero-add n) ∙ ap (λ (k : ℕ). turns step n k s) (sym (add-zero i))
+turns-after step (suc m) n i s =
+    let count : suc m + n ≡ suc (m + n) = omega arith in
+    let at : i + 1 + m ≡ i + suc m = omega arith in
+    ap (λ (k : ℕ). turns step k i s) count ∙ turns-after step m n (i + 1) (step i s) ∙ ap (λ (k : ℕ). turns step n k (turns step m (i + 1) (step i s))) at
+
+-- turns that change nothing
+turns-idle : {S : Type 0} (step : ℕ → S → S) (n i : ℕ) (s : S) → ((k : ℕ) → i ≤ k → k < i + n → step k s ≡ s) → turns step n i s ≡ s
+unfolding turns
+turns-idle step zero i s idle = refl
+turns-idle step (suc n) i s idle =
+    ap (turns step n (i + 1)) (idle i (omega arith) (omega arith)) ∙ turns-idle step n (i + 1) s (λ k low high. idle k (omega (arith, low)) (omega (arith, high)))
+
+-- of n turns only those from `from` on and before `stop` are taken, where the others change nothing
+pub turns-between : {S : Type 0} (step : ℕ → S → S) (n from stop : ℕ) (s : S) → from ≤ stop → stop ≤ n → ((k : ℕ) → k < from → (x : S) → step k x ≡ x) → ((k : ℕ) → stop ≤ k → k < n → (x : S) → step k x ≡ x) → turns step (stop - from) from s ≡ turns step n 0 s
+turns-between step n from stop s low high before after =
+    let taken = turns step (stop - from) from s in
+    let all : n ≡ from + (stop - from + (n - stop)) = omega arith in
+    let at : from + (stop - from) ≡ stop = omega arith in
+    let none-after : turns step (n - stop) (from + (stop - from)) taken ≡ taken = turns-idle step (n - stop) (from + (stop - from)) taken (λ k l h. after k (omega (arith, l)) (omega (arith, h)) taken) in
+    let none-before : turns step from 0 s ≡ s = turns-idle step from 0 s (λ k l h. before k (omega (arith, h)) s) in
+    sym
+    (ap (λ (k : ℕ). turns step k 0 s) all
+    ∙ turns-after step from (stop - from + (n - stop)) 0 s
+    ∙ ap (λ (k : ℕ). turns step (stop - from + (n - stop)) k (turns step from 0 s)) (zero-add from)
+    ∙ ap (turns step (stop - from + (n - stop)) from) none-before
+    ∙ turns-after step (stop - from) (n - stop) from s
+    ∙ none-after)

@@ -1,5 +1,5 @@
--- A test of every number below a bound, which the checker computes, and of every entry of a list. Definitions only.
-use Prim.Native.Nat.{ℕ, zero, suc}
+-- A test of every number below a bound, which the checker computes, of every entry of a list, and of every entry with the next. Definitions only.
+use Prim.Native.Nat.{ℕ, zero, suc, _+_, _-_}
 use mathlib.Core.Bool.{Bool, true, _&&_}
 use mathlib.Core.List.{List}
 use lib.ListN.{length, getD}
@@ -12,3 +12,7 @@ every test (suc n) = every test n && test n
 -- every entry of the list passes the test; d is read nowhere
 unfoldable pub everyEntry : {A : Type 0} → (A → Bool) → A → List A → Bool
 everyEntry test d xs = every (λ (k : ℕ). test (getD xs k d)) (length xs)
+
+-- each of the first n entries stands so to the next of them; d is read nowhere
+unfoldable pub everyPair : {A : Type 0} → (A → A → Bool) → A → List A → ℕ → Bool
+everyPair test d xs n = every (λ (k : ℕ). test (getD xs k d) (getD xs (k + 1) d)) (n - 1)
