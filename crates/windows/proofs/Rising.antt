@@ -1,21 +1,20 @@
 -- The centres rise: each is its window's start and half a window, starts do not fall, and a window that the loop passes ends by the duration.
-use mathlib.Core.Path.{_≡_, refl, sym, ap, subst, subst₂, _∙_}
-use mathlib.Core.Logic.{inl, inr}
+use mathlib.Core.Path.{_≡_, refl, sym, subst}
 use mathlib.Core.Bool.{false}
 use mathlib.Core.List.{List, [], _∷_, _++_}
-use Prim.Native.Nat.{ℕ, zero, suc, _+_, _<_, _≤_}
-use native.Mathlib.Nat.{not-suc-le-zero, eq-or-lt-of-le}
+use Prim.Native.Nat.{ℕ, zero, suc, _+_, _<_}
+use native.Mathlib.Nat.{not-suc-le-zero}
 use native.Mathlib.Numerals.{add-one}
 use native.Mathlib.Omega.{arith}
 use borrow.Author.Tests.{not-false}
 use lib.Dec.{T}
-use lib.ListN.{length, getD, length-append, List·getD-append}
-use lib.Seq.{getD-append-seam}
+use lib.ListN.{length}
 use lib.Ieee.{Float, binary64, add, le}
 use lib.Ieee.Fits.{add-fits}
 use Rattle.laws.specs.Values.{clear, two, Modest}
 use Rattle.laws.specs.Convert.{half}
 use Rattle.laws.proofs.Cases.{by-test}
+use Rattle.laws.proofs.Every.{each-more, each-pair-more}
 use Rattle.laws.proofs.First.{first-before}
 use Rattle.laws.proofs.Order.{le-refl, le-trans}
 use Rattle.laws.proofs.Nonneg.{nonneg→clear, clear→ordered, add-clear, add-mono, div-clear}
@@ -29,31 +28,6 @@ use Rattle.windows.specs.Rising.{Timed, CentresRise}
 use Rattle.windows.specs.declared.span.Span.{Span}
 use Rattle.timeline.specs.declared.estimate.Estimate.{Estimate}
 use Rattle.windows.proofs.Starts.{start-clear, start-upward}
-
--- ---- a list with one entry more
-module _ {A : Type 0} (xs : List A) (x d : A) where
-  entry-before : (i : ℕ) → i < length xs → getD (xs ++ (x ∷ [])) i d ≡ getD xs i d
-  entry-before i h = List·getD-append xs (x ∷ []) d i h
-
-  entry-last : (i : ℕ) → i ≡ length xs → getD (xs ++ (x ∷ [])) i d ≡ x
-  entry-last i e = ap (λ (j : ℕ). getD (xs ++ (x ∷ [])) j d) e ∙ getD-append-seam xs x [] d
-
-  each-more : (P : A → Type 0) → ((i : ℕ) → i < length xs → P (getD xs i d)) → P x → (i : ℕ) → i < length (xs ++ (x ∷ [])) → P (getD (xs ++ (x ∷ [])) i d)
-  each-more P all here i h =
-      let within : i ≤ length xs = omega (arith, h, length-append xs (x ∷ [])) in
-      elim (eq-or-lt-of-le within) [
-        | inl e ↦ subst P (sym (entry-last i e)) here
-        | inr l ↦ subst P (sym (entry-before i l)) (all i l)
-      ]
-
-  each-pair-more : (P : A → A → Type 0) → ((i : ℕ) → i + 1 < length xs → P (getD xs i d) (getD xs (i + 1) d)) → ((i : ℕ) → i < length xs → P (getD xs i d) x) → (i : ℕ) → i + 1 < length (xs ++ (x ∷ [])) → P (getD (xs ++ (x ∷ [])) i d) (getD (xs ++ (x ∷ [])) (i + 1) d)
-  each-pair-more P pairs ends i h =
-      let within : i + 1 ≤ length xs = omega (arith, h, length-append xs (x ∷ [])) in
-      let there : i < length xs = omega arith in
-      elim (eq-or-lt-of-le within) [
-        | inl e ↦ subst₂ P (sym (entry-before i there)) (sym (entry-last (i + 1) e)) (ends i there)
-        | inr l ↦ subst₂ P (sym (entry-before i there)) (sym (entry-before (i + 1) l)) (pairs i l)
-      ]
 
 module _ (s : Span) (h : Heard) (timed : Timed s) where
   window-clear : T (clear (s .window))

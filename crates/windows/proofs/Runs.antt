@@ -3,23 +3,27 @@ use Prim.Native.Nat.{ℕ, _+_, _-_, _<_, _≤_}
 use mathlib.Core.Path.{_≡_, refl, sym, ap, subst, _∙_}
 use mathlib.Core.Bool.{Bool, true, false}
 use native.Mathlib.Omega.{arith}
-use borrow.Author.Tests.{lt-ltb, le-ltb}
+use borrow.Author.Tests.{lt-ltb, le-ltb, not-false}
+use lib.Dec.{T}
 use lib.ListN.{length, length-append}
-use lib.Ieee.{Float, binary64, add}
+use lib.Ieee.{Float, binary64, add, lt}
 use Rattle.laws.specs.First.{first}
 use Rattle.laws.specs.Values.{plusZero}
 use Rattle.laws.proofs.First.{first-start, first-again, first-out, first-end}
 use Rattle.laws.proofs.Column.{Column, column-start, column-more}
 use Rattle.keys.specs.Numbers.{keyNumber}
 use Rattle.windows.specs.Span.{startOf}
-use Rattle.windows.specs.Gather.{Heard}
+use Rattle.windows.specs.Gather.{Heard, heard}
+use Rattle.windows.specs.Ahead.{aheadOf, skippedTo, Known}
 use Rattle.timeline.specs.Estimates.{EstimateRows, estimateRows, holdingEstimates}
 use Rattle.windows.specs.Run.{estimateFrom, silent, estimatesBefore, stays, stuckAt, Written, wrote, windowWritten, ran, runTo, runOf, Ready}
+use Rattle.windows.specs.declared.ahead.Ahead.{Ahead}
 use Rattle.windows.specs.declared.span.Span.{Span}
 use Rattle.timeline.specs.declared.estimate.Estimate.{Estimate}
 use Rattle.windows.specs.declared.run.Estimated.{Estimated}
 use Rattle.windows.specs.declared.run.Estimated.the-variants.{All, Stuck}
 use Rattle.windows.proofs.Found.{after-silent, after-heard}
+use Rattle.windows.proofs.Known.{known-start, known-skip, known-later, known-heard}
 use Rattle.windows.proofs.Starts.{start-first, start-next, stuck-here}
 
 same-rows : {a b : EstimateRows} → a .centres ≡ b .centres → a .keys ≡ b .keys → a .confidences ≡ b .confidences → a ≡ b
@@ -60,19 +64,21 @@ module _ {s : Span} {h : Heard} {before now : EstimateRows} {k n windows : ℕ} 
   holds-next : {start : Float} {m : ℕ} {after : EstimateRows} → start ≡ startOf s k → wrote m after ≡ windowWritten s h start n now → Holds s h before after (k + 1) m
   holds-next at e = subst (λ (w : Written). Holds s h before (w .rows) (k + 1) (w .count)) (sym (e ∙ ap (λ (x : Float). windowWritten s h x n now) at)) (left-by (silent s h (startOf s k)) refl)
 
--- The run has come to window k: after no earlier one the start stayed.
-pub record Reached (s : Span) (h : Heard) (windows : ℕ) (before now : EstimateRows) (start : Float) (k n : ℕ) : Type 0 where
+-- The run has come to window k: after no earlier one the start stayed, and the frames behind are before its start.
+pub record Reached (s : Span) (h : Heard) (windows : ℕ) (before now : EstimateRows) (a : Ahead) (start : Float) (k n : ℕ) : Type 0 where
   pub ready : Ready h before windows
+  pub known : Known h a start
   pub at : start ≡ startOf s k
   pub upto : k ≤ windows
   pub ahead : first (stuckAt s) (windows - k) k ≡ first (stuckAt s) windows 0
   pub holds : Holds s h before now k n
 
-pub reached-start : (s : Span) {h : Heard} {windows : ℕ} {before : EstimateRows} → Ready h before windows → Reached s h windows before before plusZero 0 0
+pub reached-start : (s : Span) {h : Heard} {windows : ℕ} {before : EstimateRows} {a : Ahead} → Ready h before windows → a ≡ aheadOf (h .frames) (h .centres) → Reached s h windows before before a plusZero 0 0
 unfolding estimatesBefore
-reached-start s {h} {windows} {before} ready =
+reached-start s {h} {windows} {before} ready all =
     record {
       ready = ready;
+      known = known-start h plusZero all;
       at = start-first s;
       upto = omega arith;
       ahead = first-start (stuckAt s) windows;
@@ -90,29 +96,7 @@ held-at : {now : EstimateRows} {s : Span} {h : Heard} {before : EstimateRows} {k
 held-at {now} answer holds =
     ap (λ (m : ℕ). ran (answer m) now) (holds .count) ∙ ap (ran _) (same-rows (holds .centres .here) (holds .keys .here) (holds .confidences .here))
 
-module _ {s : Span} {h : Heard} {windows : ℕ} {before now : EstimateRows} {start : Float} {k n : ℕ} (reached : Reached s h windows before now start k n) where
-  pub reached-held : {m : ℕ} {after : EstimateRows} → k < windows → wrote m after ≡ windowWritten s h start n now → Holds s h before after (k + 1) m
-  reached-held inside e = holds-next (reached .ready) inside (reached .holds) (reached .at) e
-
-  pub reached-again : {m : ℕ} {after : EstimateRows} → k < windows → wrote m after ≡ windowWritten s h start n now → stays s start ≡ false → Reached s h windows before after (add binary64 start (s .hop)) (k + 1) m
-  reached-again inside e grows =
-      record {
-        ready = reached .ready;
-        at = start-next s k (reached .at);
-        upto = omega arith;
-        ahead = first-again (stuckAt s) windows k (reached .ahead) inside (stuck-here s k (reached .at) grows);
-        holds = reached-held inside e;
-      }
-
-  pub reached-stuck : {m : ℕ} {after : EstimateRows} → k < windows → wrote m after ≡ windowWritten s h start n now → stays s start ≡ true → ran (Stuck m) after ≡ runOf s h windows before
-  unfolding runOf
-  reached-stuck inside e stuck =
-      let found = estimatesBefore s h (k + 1) in
-      let told : ran (Stuck (length found)) (holdingEstimates found before) ≡ runTo s h windows k before = rw (lt-ltb k windows inside) in
-      held-at Stuck (reached-held inside e)
-      ∙ told
-      ∙ ap (λ (j : ℕ). runTo s h windows j before) (first-out (stuckAt s) windows k (reached .ahead) inside (stuck-here s k (reached .at) stuck))
-
+module _ {s : Span} {h : Heard} {windows : ℕ} {before now : EstimateRows} {a : Ahead} {start : Float} {k n : ℕ} (reached : Reached s h windows before now a start k n) where
   pub reached-end : windows ≤ k → ran (All n) now ≡ runOf s h windows before
   unfolding runOf
   reached-end all =
@@ -121,3 +105,33 @@ module _ {s : Span} {h : Heard} {windows : ℕ} {before now : EstimateRows} {sta
       held-at All (reached .holds)
       ∙ told
       ∙ ap (λ (j : ℕ). runTo s h windows j before) (first-end (stuckAt s) windows k (reached .ahead) all)
+
+  -- in a turn, where the frames before the start were skipped
+  module _ (inside : k < windows) {next : Ahead} (skipped : next ≡ skippedTo a start (h .centres)) where
+    pub reached-known : Known h next start
+    reached-known = known-skip (reached .known) skipped
+
+    -- and the window was written with those ahead
+    module _ {m : ℕ} {after : EstimateRows} (written : wrote m after ≡ windowWritten s (heard (next .frames) (h .centres) (h .values)) start n now) where
+      pub reached-held : Holds s h before after (k + 1) m
+      reached-held = holds-next (reached .ready) inside (reached .holds) (reached .at) (written ∙ ap (λ (x : Heard). windowWritten s x start n now) (known-heard reached-known))
+
+      pub reached-again : stays s start ≡ false → Reached s h windows before after next (add binary64 start (s .hop)) (k + 1) m
+      reached-again grows =
+          record {
+            ready = reached .ready;
+            known = known-later reached-known (subst T (sym (not-false (lt start (add binary64 start (s .hop))) grows)) tt);
+            at = start-next s k (reached .at);
+            upto = omega arith;
+            ahead = first-again (stuckAt s) windows k (reached .ahead) inside (stuck-here s k (reached .at) grows);
+            holds = reached-held;
+          }
+
+      pub reached-stuck : stays s start ≡ true → ran (Stuck m) after ≡ runOf s h windows before
+      unfolding runOf
+      reached-stuck stuck =
+          let found = estimatesBefore s h (k + 1) in
+          let told : ran (Stuck (length found)) (holdingEstimates found before) ≡ runTo s h windows k before = rw (lt-ltb k windows inside) in
+          held-at Stuck reached-held
+          ∙ told
+          ∙ ap (λ (j : ℕ). runTo s h windows j before) (first-out (stuckAt s) windows k (reached .ahead) inside (stuck-here s k (reached .at) stuck))

@@ -1,5 +1,5 @@
 -- The loud frames of a window summed, written from the Rust's `estimate_segments`. Definitions only.
-use Prim.Native.Nat.{ℕ, _+_}
+use Prim.Native.Nat.{ℕ, _+_, _-_}
 use mathlib.Core.Bool.{Bool, cond, _&&_}
 use mathlib.Core.List.{List, []}
 use lib.ListN.{getD, replicate}
@@ -39,6 +39,14 @@ withFrame values g = gathered (addedTo (g .chroma) values) (g .frames + 1)
 unfoldable pub gatherTurn : Heard → Float → Float → ℕ → Gathered → Gathered
 gatherTurn h start end i g = cond (within start end (getD (h .centres) i nan)) (withFrame (getD (h .values) i []) g) g
 
+-- nothing yet
+abbrev pub noneGathered : Gathered
+noneGathered = gathered (replicate 12 plusZero) 0
+
 -- the chromas of the frames within, summed in order from +0, and how many they are
 unfoldable pub gatheredOf : Heard → Float → Float → Gathered
-gatheredOf h start end = turns (gatherTurn h start end) (h .frames) 0 (gathered (replicate 12 plusZero) 0)
+gatheredOf h start end = turns (gatherTurn h start end) (h .frames) 0 noneGathered
+
+-- the same over the frames from `from` on
+unfoldable pub gatheredAfter : Heard → ℕ → Float → Float → Gathered
+gatheredAfter h from start end = turns (gatherTurn h start end) (h .frames - from) from noneGathered

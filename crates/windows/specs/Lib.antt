@@ -1,5 +1,6 @@
 pub mod Span
 pub mod Gather
+pub mod Ahead
 pub mod Estimates
 pub mod Run
 pub mod Budget

@@ -2,7 +2,10 @@
 ghost use mathlib.Core.Path.{_≡_};
 ghost use Prim.Native.Nat.{_+_, _^_, _<_, _≤_};
 ghost use lib.ListN.{length};
-ghost use Rattle.windows.specs.Gather.{heard, within, addedTo, withFrame, gatheredOf};
+ghost use Rattle.windows.specs.Gather.{heard, within, addedTo, withFrame, gatheredOf, gatheredAfter};
+ghost use Rattle.windows.specs.Ahead.{Known};
+use crate::ahead::Ahead;
+use crate::ahead::find_stop;
 
 // The sums of the twelve values, and how many frames are in them.
 pub struct Gathered {
@@ -43,23 +46,24 @@ fn with_frame(gathered: Gathered, values: [f32; 12]) -> Gathered
     }
 }
 
-// The chromas of the frames with a centre within, summed in order from +0.
-pub fn gather_frames(
+// The chromas of the frames from `from` on and before `stop` with a centre within, summed in order from +0.
+fn gather_frames(
     start: f64,
     end: f64,
-    frames: usize,
+    from: usize,
+    stop: usize,
     centres: &[f64],
     values: &[[f32; 12]],
 ) -> Gathered
-    requires { ⌜ (frames ≤ length (now centres)) × (frames ≤ length (now values)) ⌝ }
-    ensures { λ r. ⌜ r ≡ gatheredOf (heard frames (now (centres .entry)) (now (values .entry))) start end ⌝ }
+    requires { ⌜ (stop ≤ length (now centres)) × (stop ≤ length (now values)) ⌝ }
+    ensures { λ r. ⌜ r ≡ gatheredAfter (heard stop (now (centres .entry)) (now (values .entry))) from start end ⌝ }
 {
     let mut gathered = Gathered {
         chroma: [0.0; 12],
         frames: 0,
     };
-    let mut i = 0;
-    while i < frames {
+    let mut i = from;
+    while i < stop {
         let next = i + 1;
         if is_within(start, end, centres[i]) {
             gathered = with_frame(gathered, values[i]);
@@ -67,4 +71,19 @@ pub fn gather_frames(
         i = next;
     }
     gathered
+}
+
+// What a window gathers of all frames: those left behind, and those from the stop on, are not within.
+pub fn gather_window(
+    start: f64,
+    end: f64,
+    ahead: Ahead,
+    centres: &[f64],
+    values: &[[f32; 12]],
+) -> Gathered
+    requires { ⌜ (ahead .frames ≤ length (now centres)) × (ahead .frames ≤ length (now values)) × Known (heard (ahead .frames) (now centres) (now values)) ahead start ⌝ }
+    ensures { λ r. ⌜ r ≡ gatheredOf (heard (ahead .frames) (now (centres .entry)) (now (values .entry))) start end ⌝ }
+{
+    let stop = find_stop(ahead, end, centres);
+    gather_frames(start, end, ahead.from, stop, centres, values)
 }

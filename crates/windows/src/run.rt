@@ -3,10 +3,14 @@ ghost use mathlib.Core.Path.{_≡_};
 ghost use Prim.Native.Nat.{_+_, _<_, _≤_, _^_};
 ghost use lib.ListN.{length};
 ghost use Rattle.windows.specs.Gather.{heard};
+ghost use Rattle.windows.specs.Ahead.{Known};
 ghost use Rattle.timeline.specs.Estimates.{lentEstimates};
 ghost use Rattle.windows.specs.Run.{windowWritten, wrote, ran, runOf, Ready};
+use crate::ahead::Ahead;
+use crate::ahead::look_ahead;
+use crate::ahead::skip_frames;
 use crate::estimate::estimate_of;
-use crate::gather::gather_frames;
+use crate::gather::gather_window;
 use crate::span::Span;
 use timeline::estimate::put_estimate;
 
@@ -20,7 +24,7 @@ pub enum Estimated {
 fn write_window(
     span: Span,
     start: f64,
-    frames: usize,
+    ahead: Ahead,
     centres: &[f64],
     values: &[[f32; 12]],
     n: usize,
@@ -28,10 +32,10 @@ fn write_window(
     keys: &mut [u8],
     confidences: &mut [f32],
 ) -> usize
-    requires { ⌜ (frames ≤ length (now centres)) × (frames ≤ length (now values)) × (n < length (now middles)) × (n < length (now keys)) × (n < length (now confidences)) ⌝ }
-    ensures { λ r. ⌜ wrote r (lentEstimates (middles .exit) (keys .exit) (confidences .exit)) ≡ windowWritten span (heard frames (now (centres .entry)) (now (values .entry))) start n (lentEstimates (middles .entry) (keys .entry) (confidences .entry)) ⌝ }
+    requires { ⌜ (ahead .frames ≤ length (now centres)) × (ahead .frames ≤ length (now values)) × Known (heard (ahead .frames) (now centres) (now values)) ahead start × (n < length (now middles)) × (n < length (now keys)) × (n < length (now confidences)) ⌝ }
+    ensures { λ r. ⌜ wrote r (lentEstimates (middles .exit) (keys .exit) (confidences .exit)) ≡ windowWritten span (heard (ahead .frames) (now (centres .entry)) (now (values .entry))) start n (lentEstimates (middles .entry) (keys .entry) (confidences .entry)) ⌝ }
 {
-    let found = gather_frames(start, start + span.window, frames, centres, values);
+    let found = gather_window(start, start + span.window, ahead, centres, values);
     if found.frames == 0 {
         return n;
     }
@@ -55,15 +59,16 @@ pub fn fill_estimates(
     requires { ⌜ Ready (heard frames (now centres) (now values)) (lentEstimates middles keys confidences) windows ⌝ }
     ensures { λ r. ⌜ ran r (lentEstimates (middles .exit) (keys .exit) (confidences .exit)) ≡ runOf span (heard frames (now (centres .entry)) (now (values .entry))) windows (lentEstimates (middles .entry) (keys .entry) (confidences .entry)) ⌝ }
 {
+    let mut ahead = look_ahead(frames, centres);
     let mut start = 0.0;
     let mut k = 0;
     let mut n = 0;
     while k < windows {
-        let next = k + 1;
+        ahead = skip_frames(ahead, start, centres);
         n = write_window(
             span,
             start,
-            frames,
+            ahead,
             centres,
             values,
             n,
@@ -76,7 +81,7 @@ pub fn fill_estimates(
             return Estimated::Stuck(n);
         }
         start = later;
-        k = next;
+        k += 1;
     }
     Estimated::All(n)
 }

@@ -1,5 +1,5 @@
 -- The counted loop that the definition is.
-use mathlib.Core.Path.{sym, ap, _∙_, _≡_}
+use mathlib.Core.Path.{refl, sym, ap, _∙_, _≡_}
 use mathlib.Core.Bool.{Bool, true, false, cond}
 use mathlib.Core.List.{[]}
 use Prim.Native.Nat.{_+_, ℕ, _-_, _≤_}
@@ -8,19 +8,19 @@ use borrow.Author.Needs.{needs}
 use lib.ListN.{getD}
 use lib.Ieee.{Float, nan, ofBits}
 use Rattle.laws.specs.Turns.{turns}
-use Rattle.laws.proofs.Turns.{turns-start, turns-again, turns-end}
-use Rattle.windows.specs.Gather.{Heard, within, withFrame, heard, gatherTurn, gatheredOf}
+use Rattle.laws.proofs.Turns.{turns-again, turns-end}
+use Rattle.windows.specs.Gather.{Heard, within, withFrame, heard, gatherTurn, gatheredAfter}
 use Rattle.windows.specs.declared.gather.Gathered.{Gathered}
 use Rattle.windows.proofs.gather.gather_frames.Statement.{statement}
 use Rattle.windows.proofs.gather.gather_frames.Tie as tie
 
 abbrev Inv-loop : tie.InvT-loop
-Inv-loop start end frames centres values gathered₀ i₀ gathered i =
-    let h = heard frames centres values in
-    (i ≤ frames) × (gathered .frames ≤ i) × (turns (gatherTurn h start end) (frames - i) i gathered ≡ gatheredOf h start end)
+Inv-loop start end from stop centres values gathered₀ i₀ gathered i =
+    let h = heard stop centres values in
+    (gathered .frames ≤ i) × (turns (gatherTurn h start end) (stop - i) i gathered ≡ gatheredAfter h from start end)
 
 abbrev μ-loop : tie.MeasureT-loop
-μ-loop start end frames centres values gathered₀ i₀ gathered i = frames - i
+μ-loop start end from stop centres values gathered₀ i₀ gathered i = stop - i
 
 -- what a turn makes of a frame within, and of any other
 module _ (h : Heard) (start end : Float) (i : ℕ) (g : Gathered) {flag : Bool} (told : flag ≡ within start end (getD (h .centres) i nan)) where
@@ -36,8 +36,8 @@ module _ (h : Heard) (start end : Float) (i : ℕ) (g : Gathered) {flag : Bool} 
   passed-by t = ap either (sym t ∙ told)
 
 loop-holds : tie.Need-loop-holds Inv-loop μ-loop
-unfolding gatheredOf ofBits
-loop-holds c = (omega arith, omega arith, turns-start _ _ _)
+unfolding gatheredAfter ofBits
+loop-holds c = (omega arith, refl)
 
 add-next : tie.Need-add-next Inv-loop μ-loop
 add-next c = search needs
@@ -69,10 +69,9 @@ loop-again c =
     let turn = test .before .before .before in
     let asked = turn .before .before .args in
     let few : c .with-frame .result .frames ≤ turn .loop .i + 1 = rw (c .with-frame .ensures) (omega arith) in (
-      omega arith,
       few,
-      turns-again _ _ (turn .loop .i) (turn .loop .inv .2) (test .before .before .loop-test .taken)
-          (counted (heard (asked .frames) (asked .centres .now) (asked .values .now)) (asked .start) (asked .end) (turn .loop .i) (turn .loop .gathered) (test .is-within .ensures) (c .before .before .if1 .taken) (c .with-frame .ensures)),
+      turns-again _ _ (turn .loop .i) (turn .loop .inv .1) (test .before .before .loop-test .taken)
+          (counted (heard (asked .stop) (asked .centres .now) (asked .values .now)) (asked .start) (asked .end) (turn .loop .i) (turn .loop .gathered) (test .is-within .ensures) (c .before .before .if1 .taken) (c .with-frame .ensures)),
     )
 
 loop-less-2 : tie.Need-loop-less-2 Inv-loop μ-loop
@@ -83,13 +82,12 @@ loop-again-2 c =
     let turn = c .before .before .before .before in
     let asked = turn .before .before .args in (
       omega arith,
-      omega arith,
-      turns-again _ _ (turn .loop .i) (turn .loop .inv .2) (c .before .before .before .loop-test .taken)
-          (passed-by (heard (asked .frames) (asked .centres .now) (asked .values .now)) (asked .start) (asked .end) (turn .loop .i) (turn .loop .gathered) (c .before .is-within .ensures) (c .if1 .left)),
+      turns-again _ _ (turn .loop .i) (turn .loop .inv .1) (c .before .before .before .loop-test .taken)
+          (passed-by (heard (asked .stop) (asked .centres .now) (asked .values .now)) (asked .start) (asked .end) (turn .loop .i) (turn .loop .gathered) (c .before .is-within .ensures) (c .if1 .left)),
     )
 
 returns : tie.Need-returns Inv-loop μ-loop
-returns c = turns-end _ _ (c .before .loop .i) (c .before .loop .inv .2) (c .loop-test .left)
+returns c = turns-end _ _ (c .before .loop .i) (c .before .loop .inv .1) (c .loop-test .left)
 
 pub gather-frames-spec : {M : Type 1} → statement M
 gather-frames-spec =

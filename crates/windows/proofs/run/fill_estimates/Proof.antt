@@ -1,53 +1,89 @@
 -- Each way out of a turn is a law of `Runs`.
-use Prim.Native.Nat.{_-_}
+use Prim.Native.Nat.{_-_, _<_}
+use native.Mathlib.Omega.{arith}
 use borrow.Author.Needs.{needs}
 use lib.Ieee.{ofBits}
 use Rattle.windows.specs.Gather.{heard}
 use Rattle.timeline.specs.Estimates.{estimateRows}
-use Rattle.windows.proofs.Runs.{Reached, reached-held, reached-start, reached-again, reached-stuck, reached-end}
+use Rattle.windows.proofs.Known.{known-own}
+use Rattle.windows.proofs.Runs.{Reached, reached-known, reached-held, reached-start, reached-again, reached-stuck, reached-end}
 use Rattle.windows.proofs.run.fill_estimates.Statement.{statement}
 use Rattle.windows.proofs.run.fill_estimates.Tie as tie
 
 abbrev Inv-loop : tie.InvT-loop
-Inv-loop span windows frames centres values middles₀ keys₀ confidences₀ start₀ k₀ n₀ middles keys confidences start k n =
+Inv-loop span windows frames centres values middles₀ keys₀ confidences₀ ahead₀ start₀ k₀ n₀ middles keys confidences ahead start k n =
     Reached
     span
     (heard frames centres values)
     windows
     (estimateRows middles₀ keys₀ confidences₀)
     (estimateRows middles keys confidences)
+    ahead
     start
     k
     n
 
 abbrev μ-loop : tie.MeasureT-loop
-μ-loop span windows frames centres values middles₀ keys₀ confidences₀ start₀ k₀ n₀ middles keys confidences start k n =
+μ-loop span windows frames centres values middles₀ keys₀ confidences₀ ahead₀ start₀ k₀ n₀ middles keys confidences ahead start k n =
     windows - k
+
+look-ahead-requires : tie.Need-look-ahead-requires Inv-loop μ-loop
+look-ahead-requires c κs = c .before .before .before .before .pre .timed
 
 loop-holds : tie.Need-loop-holds Inv-loop μ-loop
 unfolding ofBits
-loop-holds c = reached-start (c .before .before .before .before .args .span) (c .before .before .before .before .pre)
+loop-holds c = let start = c .before .before .before .before .before in reached-start (start .args .span) (start .pre) (c .look-ahead .ensures)
 
-add-next : tie.Need-add-next Inv-loop μ-loop
-add-next c = search needs
+skip-frames-requires : tie.Need-skip-frames-requires Inv-loop μ-loop
+skip-frames-requires c κs = let r = c .before .loop .inv in omega (arith, r .known .count, r .ready .timed)
 
 write-window-requires : tie.Need-write-window-requires Inv-loop μ-loop
-write-window-requires c κs = search needs
+write-window-requires c κs =
+    let skip = c .before .before .before in
+    let r = skip .before .before .loop .inv in
+    let inside = skip .before .loop-test .taken in
+    let known = reached-known r inside (skip .skip-frames .ensures) in (
+      omega (arith, known .count, r .ready .timed),
+      omega (arith, known .count, r .ready .valued),
+      known-own known,
+      omega (arith, inside, r .holds .few, r .holds .centres .long, r .ready .centres),
+      omega (arith, inside, r .holds .few, r .holds .keys .long, r .ready .keys),
+      omega (arith, inside, r .holds .few, r .holds .confidences .long, r .ready .confidences),
+    )
+
+-- of a window that was written
+module _ (c : tie.After-write-window Inv-loop μ-loop) where
+  abbrev skip : tie.After-skip-frames Inv-loop μ-loop
+  skip = c .before .before .before .before
+
+  abbrev turn : tie.At-loop Inv-loop μ-loop
+  turn = skip .before .before
+
+  abbrev inside : turn .loop .k < turn .before .before .before .before .before .before .args .windows
+  inside = skip .before .loop-test .taken
 
 same-length : tie.Need-same-length Inv-loop μ-loop
-same-length c = let written = c .before .before .before .before .before .before .before .before in reached-held (written .before .before .before .before .before .loop .inv) (written .before .before .before .before .loop-test .taken) (written .write-window .ensures) .centres .long
+same-length c =
+    let written = c .before .before .before .before .before .before .before .before in
+    reached-held (turn written .loop .inv) (inside written) (skip written .skip-frames .ensures) (written .write-window .ensures) .centres .long
 
 same-length-2 : tie.Need-same-length-2 Inv-loop μ-loop
-same-length-2 c = let written = c .before .before .before .before .before .before .before .before in reached-held (written .before .before .before .before .before .loop .inv) (written .before .before .before .before .loop-test .taken) (written .write-window .ensures) .keys .long
+same-length-2 c =
+    let written = c .before .before .before .before .before .before .before .before in
+    reached-held (turn written .loop .inv) (inside written) (skip written .skip-frames .ensures) (written .write-window .ensures) .keys .long
 
 same-length-3 : tie.Need-same-length-3 Inv-loop μ-loop
-same-length-3 c = let written = c .before .before .before .before .before .before .before .before in reached-held (written .before .before .before .before .before .loop .inv) (written .before .before .before .before .loop-test .taken) (written .write-window .ensures) .confidences .long
+same-length-3 c =
+    let written = c .before .before .before .before .before .before .before .before in
+    reached-held (turn written .loop .inv) (inside written) (skip written .skip-frames .ensures) (written .write-window .ensures) .confidences .long
 
 returns : tie.Need-returns Inv-loop μ-loop
 returns c =
     let written = c .before .before .before .before .before .before .before .before in
-    let turn = written .before .before .before .before in
-    reached-stuck (turn .before .loop .inv) (turn .loop-test .taken) (written .write-window .ensures) (c .if1 .taken)
+    reached-stuck (turn written .loop .inv) (inside written) (skip written .skip-frames .ensures) (written .write-window .ensures) (c .if1 .taken)
+
+add-k : tie.Need-add-k Inv-loop μ-loop
+add-k c = search needs
 
 loop-less : tie.Need-loop-less Inv-loop μ-loop
 loop-less c = search needs
@@ -55,8 +91,7 @@ loop-less c = search needs
 loop-again : tie.Need-loop-again Inv-loop μ-loop
 loop-again c =
     let written = c .before .before .before .before .before .before .before .before in
-    let turn = written .before .before .before .before in
-    reached-again (turn .before .loop .inv) (turn .loop-test .taken) (written .write-window .ensures) (c .if1 .left)
+    reached-again (turn written .loop .inv) (inside written) (skip written .skip-frames .ensures) (written .write-window .ensures) (c .if1 .left)
 
 same-length-4 : tie.Need-same-length-4 Inv-loop μ-loop
 same-length-4 c = c .before .loop .inv .holds .centres .long
@@ -76,13 +111,15 @@ fill-estimates-spec =
     (tie.spec
     Inv-loop
     μ-loop
+    look-ahead-requires
     loop-holds
-    add-next
+    skip-frames-requires
     write-window-requires
     same-length
     same-length-2
     same-length-3
     returns
+    add-k
     loop-less
     loop-again
     same-length-4

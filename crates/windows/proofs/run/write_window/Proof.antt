@@ -32,13 +32,13 @@ module _ (s : Span) (h : Heard) (start : Float) (n : ℕ) (before : EstimateRows
       let found : e ≡ estimateFrom s h start = same ∙ ap (λ (x : Gathered). estimateOf (add binary64 start (half binary64 (s .window))) (x .chroma)) told in
       ap (wrote (n + 1)) (put ∙ ap (λ (x : Estimate). putEstimate x n before) found) ∙ ap either (sym t ∙ ap (λ (x : Gathered). eqb (x .frames) 0) told)
 
-gather-frames-requires : tie.Need-gather-frames-requires
-gather-frames-requires c κs = search needs
+gather-window-requires : tie.Need-gather-window-requires
+gather-window-requires c κs = search needs
 
 returns : tie.Need-returns
 returns c =
     let asked = c .before .before .before .before .before .before .before .before .args in
-    left-silent (asked .span) (heard (asked .frames) (asked .centres .now) (asked .values .now)) (asked .start) (asked .n) _ (c .before .before .gather-frames .ensures) (eq-eqb _ _ (c .if1 .taken))
+    left-silent (asked .span) (heard (asked .ahead .frames) (asked .centres .now) (asked .values .now)) (asked .start) (asked .n) _ (c .before .before .gather-window .ensures) (eq-eqb _ _ (c .if1 .taken))
 
 estimate-of-requires : tie.Need-estimate-of-requires
 estimate-of-requires c κs = search needs
@@ -64,13 +64,13 @@ returns-2 c =
     let put = c .before .before .before .before .before .before in
     let found = put .before .before .before .before in
     let asked = found .before .before .before .before .before .before .before .before .before .before .before .args in
-    left-written (asked .span) (heard (asked .frames) (asked .centres .now) (asked .values .now)) (asked .start) (asked .n) _ (found .before .before .before .before .before .gather-frames .ensures) (ne-eqb _ _ (found .before .before .before .if1 .left)) (found .estimate-of .ensures) (put .put-estimate .ensures)
+    left-written (asked .span) (heard (asked .ahead .frames) (asked .centres .now) (asked .values .now)) (asked .start) (asked .n) _ (found .before .before .before .before .before .gather-window .ensures) (ne-eqb _ _ (found .before .before .before .if1 .left)) (found .estimate-of .ensures) (put .put-estimate .ensures)
 
 pub write-window-spec : {M : Type 1} → statement M
 write-window-spec =
     tie.close
     (tie.spec
-    gather-frames-requires
+    gather-window-requires
     returns
     estimate-of-requires
     put-estimate-requires
