@@ -1,3 +1,4 @@
 pub mod Blend
 pub mod Frame
 pub mod Run
+pub mod Rising

@@ -141,6 +141,22 @@ impl Tracks {
         self.track(settings, samples, centres)
     }
 
+    /// Centres in order, some of them equal, many at a window's border, and seldom NaNs at the end.
+    pub fn in_order(&mut self) -> Track {
+        let mut track = self.irregular();
+        track.centres.sort_by(f64::total_cmp);
+        for i in 1..track.centres.len() {
+            if self.dice.one_in(5) {
+                track.centres[i] = track.centres[i - 1];
+            }
+        }
+        if !self.dice.one_in(5) {
+            track.centres.retain(|centre| !centre.is_nan());
+        }
+        track.values.truncate(track.centres.len());
+        track
+    }
+
     /// As long as a window and a hop, or a sample more or less.
     pub fn at_window_and_hop(&mut self) -> Track {
         let (rate, window, hop) = if self.dice.one_in(2) {

@@ -101,7 +101,7 @@ fn theirs(asked: Asked) -> Left {
 type Maker = fn(&mut Tracks) -> Asked;
 
 /// Name, how many tracks, and how one is made.
-const KINDS: [(&str, usize, Maker); 5] = [
+const KINDS: [(&str, usize, Maker); 6] = [
     ("centres as the library makes them", 5_000, |tracks| {
         let track = tracks.regular();
         tracks.with_room(track)
@@ -120,6 +120,10 @@ const KINDS: [(&str, usize, Maker); 5] = [
     }),
     ("a start that does not grow", 200, |tracks| {
         let track = tracks.stuck();
+        tracks.with_room(track)
+    }),
+    ("centres in order", 4_000, |tracks| {
+        let track = tracks.in_order();
         tracks.with_room(track)
     }),
 ];
