@@ -1,57 +1,30 @@
 //! Whole analyses beside the oracle's `analyze`: seconds for one call, tables and all, and milliseconds by stage.
-use super::dice::Dice;
-use super::frames::seconds;
-use super::key_lime::{KeyConfig, analyze};
-use super::track_makers::{Maker, kind};
-use super::{SEED, header};
-use std::hint::black_box;
+use super::frames::frames_of;
+use super::key_lime::analyze;
+use super::rounds::{Pair, header, median_of, seconds};
+use super::segment_calls::config;
+use super::segments::segments_of;
+use super::tracks::chords;
 use ulyptesh::analysis::{Buffers, analyse};
-use ulyptesh::frames::{FrameRows, frames};
-use ulyptesh::segments::{EstimateRows, SegmentRows, Track, segments};
+use ulyptesh::frames::FrameRows;
+use ulyptesh::segments::Track;
 use ulyptesh::sheet::{Settings, Sheet};
 
 const RATES: [u32; 2] = [44_100, 48_000];
 const SECONDS: usize = 240;
+
+/// Rounds of a stage, which is ours alone.
 const ROUNDS: usize = 3;
 
 /// Stream of the seed.
 const STREAM: u64 = 5;
 
-fn fastest(work: impl Fn()) -> f64 {
-    (0..ROUNDS).map(|_| seconds(&work)).fold(f64::INFINITY, f64::min)
-}
-
-/// The fastest round of each of two, in turns.
-fn fastest_of_both(ours: impl Fn(), theirs: impl Fn()) -> (f64, f64) {
-    let rounds = (0..ROUNDS).map(|_| (seconds(&ours), seconds(&theirs)));
-    rounds.fold((f64::INFINITY, f64::INFINITY), |best, round| (best.0.min(round.0), best.1.min(round.1)))
-}
-
-/// Four minutes of chords over noise.
-fn track(rate: u32) -> Vec<f32> {
-    let mut maker = Maker { dice: Dice::new(SEED, STREAM), rate };
-    (kind("noise bed").make)(&mut maker, SECONDS * rate as usize)
-}
-
-/// The frames alone.
-fn frames_of(settings: Settings, track: &[f32]) -> FrameRows {
-    let mut rows = Buffers::for_track(&settings, track.len()).frames;
-    let told = frames(settings, &Sheet::for_call(&settings), track, &mut rows);
-    assert_eq!(told.count, rows.centres.len() as u64);
-    rows
-}
-
-fn analysis_of(settings: Settings, track: &[f32]) {
+/// The analysis of a track that has a key.
+pub fn analysis_of(settings: Settings, track: &[f32]) -> Buffers {
     let mut lent = Buffers::for_track(&settings, track.len());
     let told = analyse(settings, &Sheet::for_call(&settings), track, &mut lent);
     assert!(told.key < 24);
-    black_box(lent);
-}
-
-fn segments_of(track: &Track) -> (EstimateRows, SegmentRows) {
-    let mut lent = Buffers::for_track(&track.settings, track.samples);
-    assert_eq!(segments(track, &mut lent.estimates, &mut lent.segments).outcome, 0);
-    (lent.estimates, lent.segments)
+    lent
 }
 
 /// As many frames and windows, but small frames of one note: what follows the frames takes as long, and is not lost
@@ -60,19 +33,23 @@ fn with_small_frames(settings: Settings) -> Settings {
     Settings { frame_size: 32, minimum_midi_note: 69, maximum_midi_note: 69, ..settings }
 }
 
+fn time_of<A>(work: impl Fn() -> A) -> f64 {
+    median_of(ROUNDS, || seconds(&work))
+}
+
 /// What follows the frames: medians and verdict by difference, and segments.
 fn after_frames(settings: Settings, track: &[f32]) -> (f64, f64) {
     let small = with_small_frames(settings);
     let FrameRows { centres, values, .. } = frames_of(small, track);
     let heard = Track { settings: small, samples: track.len(), key: 0, confidence: 0.5, centres, values };
-    let for_segments = fastest(|| drop(black_box(segments_of(&heard))));
-    let for_frames = fastest(|| drop(black_box(frames_of(small, track))));
-    let for_all = fastest(|| analysis_of(small, track));
+    let for_segments = time_of(|| segments_of(&heard));
+    let for_frames = time_of(|| frames_of(small, track));
+    let for_all = time_of(|| analysis_of(small, track));
     (for_all - for_frames - for_segments, for_segments)
 }
 
 fn print_stages(settings: Settings, track: &[f32]) {
-    let for_frames = fastest(|| drop(black_box(frames_of(settings, track))));
+    let for_frames = time_of(|| frames_of(settings, track));
     let (for_medians, for_segments) = after_frames(settings, track);
     println!("{:30} {:>10}", "ms for the stages of the same", "ours");
     let stages = [("frames", for_frames), ("medians and verdict", for_medians), ("segments", for_segments)];
@@ -92,15 +69,11 @@ fn print_memory() {
 
 pub fn print_rows() {
     header("s for the analysis of a track", "oracle");
-    for rate in RATES {
-        let (settings, track) = (Settings::for_rate(rate), track(rate));
-        let (our_time, their_time) = fastest_of_both(
-            || analysis_of(settings, &track),
-            || drop(black_box(analyze(&track, rate, KeyConfig::default()))),
-        );
-        let name = format!("four minutes, {rate} Hz");
-        println!("{name:30} {our_time:10.2} {their_time:10.2} {:7.2}", our_time / their_time);
+    let tracks = RATES.map(|rate| (Settings::for_rate(rate), chords(STREAM, rate, SECONDS)));
+    for (settings, track) in &tracks {
+        Pair::of_work(|| analysis_of(*settings, track), || analyze(track, settings.rate, config(settings)))
+            .print(&format!("four minutes, {} Hz", settings.rate));
     }
-    print_stages(Settings::for_rate(RATES[0]), &track(RATES[0]));
+    print_stages(tracks[0].0, &tracks[0].1);
     print_memory();
 }

@@ -1,10 +1,8 @@
 //! The most memory that the tool takes for a track of ten minutes, beside the oracle's `analyze` on the same samples.
 //! Each side is a program of its own that reads the same file in the same way.
-use super::SEED;
-use super::dice::Dice;
 use super::key_lime::{KeyConfig, analyze};
 use super::samples;
-use super::track_makers::{Maker, kind};
+use super::tracks::chords;
 use std::ffi::OsStr;
 use std::fs::{self, File};
 use std::hint::black_box;
@@ -27,8 +25,7 @@ const MEBIBYTE: f64 = 1024.0;
 
 /// Ten minutes of chords over noise, as raw samples.
 fn write_track(file: &Path) -> std::io::Result<()> {
-    let mut maker = Maker { dice: Dice::new(SEED, STREAM), rate: RATE };
-    let track = (kind("noise bed").make)(&mut maker, SECONDS * RATE as usize);
+    let track = chords(STREAM, RATE, SECONDS);
     let mut out = BufWriter::new(File::create(file)?);
     track.iter().try_for_each(|x| out.write_all(&x.to_le_bytes()))?;
     out.flush()

@@ -1,57 +1,30 @@
 //! The segments of the longest track from its frames, beside the oracle's: seconds for one call.
+use super::SEED;
 use super::chromas::{draws, uniform};
-use super::frames::seconds;
 use super::key_lime::expose::{estimate_segments, key_from_index};
-use super::key_lime::{ChromaFrame, KeyConfig};
-use super::{SEED, header};
-use std::hint::black_box;
+use super::rounds::{Pair, header};
+use super::segment_calls::{self, config};
+use ulyptesh::analysis::{Buffers, frame_positions};
 use ulyptesh::segments::{EstimateRows, SegmentRows, Track, segments};
 use ulyptesh::sheet::Settings;
 
 const RATE: u32 = 44_100;
-const SAMPLES: usize = 14_400 * RATE as usize;
-const FRAME_SIZE: usize = 4_096;
-const HOP_SIZE: usize = 2_048;
+const LONGEST: usize = 14_400;
 
-/// The most windows that a track has: a hop of half a second.
-const WINDOW: f32 = 12.0;
-const HOP: f32 = 0.5;
-const WINDOWS: usize = 2 * (14_400 - 12) + 1;
-
-const ROUNDS: usize = 3;
-
-fn config() -> KeyConfig {
-    KeyConfig {
-        local_window_seconds: WINDOW,
-        local_hop_seconds: HOP,
-        segment_confidence_threshold: 0.35,
-        minimum_segment_seconds: 12.0,
-        ..KeyConfig::default()
-    }
-}
-
-fn settings(config: KeyConfig) -> Settings {
-    Settings {
-        rate: RATE,
-        frame_size: FRAME_SIZE,
-        hop_size: HOP_SIZE,
-        minimum_midi_note: config.minimum_midi_note,
-        maximum_midi_note: config.maximum_midi_note,
-        local_window_seconds: config.local_window_seconds,
-        local_hop_seconds: config.local_hop_seconds,
-        alternate_coverage_threshold: config.alternate_coverage_threshold,
-        segment_confidence_threshold: config.segment_confidence_threshold,
-        minimum_segment_seconds: config.minimum_segment_seconds,
-    }
+/// The Rust's own settings with the most windows: one every half second.
+fn settings() -> Settings {
+    Settings { local_hop_seconds: 0.5, ..Settings::for_rate(RATE) }
 }
 
 /// Every frame is loud, and has a chroma of its own.
-fn track(settings: Settings) -> Track {
-    let positions = (SAMPLES - FRAME_SIZE) / HOP_SIZE + 1;
-    let centre = |position| (position * HOP_SIZE + FRAME_SIZE / 2) as f64 / f64::from(RATE);
+pub fn track(seconds: usize) -> Track {
+    let (settings, samples) = (settings(), seconds * RATE as usize);
+    let positions = frame_positions(&settings, samples);
+    let Settings { frame_size, hop_size, .. } = settings;
+    let centre = |position| (position * hop_size + frame_size / 2) as f64 / f64::from(RATE);
     Track {
         settings,
-        samples: SAMPLES,
+        samples,
         key: 0,
         confidence: 0.5,
         centres: (0..positions).map(centre).collect(),
@@ -59,36 +32,19 @@ fn track(settings: Settings) -> Track {
     }
 }
 
-fn ours(track: &Track) {
-    let mut found = EstimateRows {
-        middles: vec![0.0; WINDOWS],
-        numbers: vec![0; WINDOWS],
-        certainties: vec![0.0; WINDOWS],
-    };
-    let mut left = SegmentRows {
-        starts: vec![0.0; WINDOWS],
-        ends: vec![0.0; WINDOWS],
-        keys: vec![0; WINDOWS],
-        confidences: vec![0.0; WINDOWS],
-    };
-    assert_eq!(segments(track, &mut found, &mut left).estimates, WINDOWS);
-    black_box((found, left));
-}
-
-fn fastest(work: impl Fn()) -> f64 {
-    (0..ROUNDS).map(|_| seconds(&work)).fold(f64::INFINITY, f64::min)
+/// Every row that is asked for gets an estimate.
+pub fn segments_of(track: &Track) -> (EstimateRows, SegmentRows) {
+    let mut lent = Buffers::for_track(&track.settings, track.samples);
+    let told = segments(track, &mut lent.estimates, &mut lent.segments);
+    assert_eq!((told.outcome, told.estimates), (0, lent.estimates.middles.len()));
+    (lent.estimates, lent.segments)
 }
 
 /// Four hours of frames, with a window every half second.
 pub fn print_row() {
-    let config = config();
-    let track = track(settings(config));
-    let frame = |(&center_seconds, &values)| ChromaFrame { center_seconds, values };
-    let frames: Vec<ChromaFrame> = track.centres.iter().zip(&track.values).map(frame).collect();
-    let our_time = fastest(|| ours(&track));
-    let their_time = fastest(|| {
-        black_box(estimate_segments(&frames, 14_400.0, key_from_index(0), 0.5, config));
-    });
+    let track = track(LONGEST);
+    let (frames, config, key) = (segment_calls::frames(&track), config(&track.settings), key_from_index(0));
     header("s for the segments of a track", "oracle");
-    println!("{:30} {our_time:10.2} {their_time:10.2} {:7.2}", "four hours, 44100 Hz", our_time / their_time);
+    Pair::of_work(|| segments_of(&track), || estimate_segments(&frames, LONGEST as f64, key, 0.5, config))
+        .print(&format!("four hours, {RATE} Hz"));
 }

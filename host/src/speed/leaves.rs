@@ -1,0 +1,53 @@
+//! The leaves beside the hardware's, and the median beside Rust's selection: nanoseconds for one.
+use super::SEED;
+use super::random::patterns;
+use super::rounds::{Pair, header};
+use ulyptesh::probe::{median, probe_narrow, probe_square_root};
+
+const VALUES: usize = 1 << 14;
+
+/// Medians are of so many values, of so many sets in turn.
+const COUNT: usize = 10_000;
+const SETS: usize = 4;
+
+fn fixed_patterns() -> impl Iterator<Item = u64> {
+    patterns(SEED, 0).take(VALUES)
+}
+
+/// A positive normal value from 2^-32 to 2^32, as samples and energies are.
+fn ordinary_value(pattern: u64) -> f64 {
+    f64::from_bits((1023 - 32 + (pattern >> 58)) << 52 | pattern >> 12)
+}
+
+fn row<X: Copy>(
+    name: &str,
+    values: impl Iterator<Item = X>,
+    ours: impl Fn(X) -> f32,
+    theirs: impl Fn(X) -> f32,
+) {
+    Pair::of_steps(1, &values.collect::<Vec<X>>(), ours, theirs).print(name);
+}
+
+pub fn print_rows() {
+    let ordinary = || fixed_patterns().map(ordinary_value);
+    let single = |pattern| f32::from_bits(pattern as u32);
+    header("ns for one value", "hardware");
+    row("square_root, ordinary values", ordinary().map(|x| x as f32), |x| probe_square_root(x), f32::sqrt);
+    row("square_root, mixed patterns", fixed_patterns().map(single), |x| probe_square_root(x), f32::sqrt);
+    row("narrow, ordinary values", ordinary(), |x| probe_narrow(x), |x| x as f32);
+    row("narrow, mixed patterns", fixed_patterns().map(f64::from_bits), |x| probe_narrow(x), |x| x as f32);
+    print_median();
+}
+
+/// Both sides work on a copy, whose making counts.
+fn print_median() {
+    let values: Vec<f32> =
+        patterns(SEED, 1).take(SETS * COUNT).map(|pattern| ordinary_value(pattern) as f32).collect();
+    header("ns for one median", "Rust");
+    row(
+        "median, 10,000 ordinary values",
+        values.chunks_exact(COUNT),
+        |set| median(&mut set.to_vec(), COUNT),
+        |set| *set.to_vec().select_nth_unstable_by(COUNT / 2, f32::total_cmp).1,
+    );
+}
