@@ -2,6 +2,9 @@
 use std::env;
 use std::path::Path;
 
+/// The C library's functions whose calls the comparison counts.
+const ASKED_FOR_MEMORY: [&str; 4] = ["malloc", "calloc", "realloc", "posix_memalign"];
+
 fn main() {
     let host = env::var_os("CARGO_MANIFEST_DIR").expect("cargo names the package's folder");
     let built = Path::new(&host).join("../target");
@@ -25,5 +28,11 @@ fn link_oracle(folder: &Path) {
     if oracle.exists() {
         println!("cargo::rustc-cfg=oracle");
         println!("cargo::rustc-link-search=crate={}", folder.display());
+        ASKED_FOR_MEMORY.iter().for_each(|name| count_calls(name));
     }
+}
+
+// In the comparison `__wrap_NAME` takes the calls, and `__real_NAME` is the function itself.
+fn count_calls(name: &str) {
+    println!("cargo::rustc-link-arg-bin=compare=-Wl,--wrap={name}");
 }

@@ -70,7 +70,7 @@ fn marked_bytes(length: usize) -> Vec<u8> {
 }
 
 /// What is lent, before the call.
-fn untouched(asked: &Asked) -> Buffers {
+pub fn untouched(asked: &Asked) -> Buffers {
     let [centres, values, energies] = asked.call.room;
     let [middles, numbers, certainties, starts, ends, keys, confidences] = asked.rows;
     let same = |x: f32| x;

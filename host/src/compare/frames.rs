@@ -68,7 +68,7 @@ impl Compared for Asked {
     }
 }
 
-fn untouched(room: [usize; 3]) -> FrameRows {
+pub fn untouched(room: [usize; 3]) -> FrameRows {
     FrameRows {
         centres: vec![UNTOUCHED.into(); room[0]],
         values: vec![[UNTOUCHED; 12]; room[1]],

@@ -1,6 +1,7 @@
 //! A module per topic; a named group of inputs is one test.
 extern crate key_lime;
 
+mod allocations;
 mod alternates;
 mod analyses;
 mod analysis_calls;
@@ -58,7 +59,7 @@ const SEED: u64 = 44_100;
 /// A module's name and its groups.
 type Topic = (&'static str, fn(&mut Groups, &Options));
 
-const TOPICS: [Topic; 20] = [
+const TOPICS: [Topic; 21] = [
     ("numbers", |groups, given| numbers::compare(groups, given.all)),
     ("orders", |groups, _| orders::compare(groups)),
     ("keys", |groups, _| keys::compare(groups)),
@@ -76,6 +77,7 @@ const TOPICS: [Topic; 20] = [
     ("track_edges", |groups, _| track_edges::compare(groups)),
     ("short_tracks", |groups, _| short_tracks::compare(groups)),
     ("whole_tracks", |groups, _| whole_tracks::compare(groups)),
+    ("allocations", |groups, _| allocations::compare(groups)),
     ("found", |groups, _| found::compare(groups)),
     ("tool_refusals", |groups, _| tool_refusals::compare(groups)),
     ("tool_tracks", |groups, _| tool_tracks::compare(groups)),
