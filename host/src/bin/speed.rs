@@ -59,8 +59,9 @@ mod tracks;
 use std::ffi::OsString;
 use std::process::ExitCode;
 
-const USAGE: &str = "usage: speed [--only TOPIC | --memory]
+const USAGE: &str = "usage: speed [--only TOPIC | --once | --memory]
   --only TOPIC  one topic alone, such as filters or growth
+  --once        one analysis of half a minute and no time, for a profiler
   --memory      the most memory for a track, instead of times";
 
 const SEED: u64 = 44_100;
@@ -96,6 +97,8 @@ fn run(words: &[OsString]) -> Result<(), String> {
         [] => TOPICS.iter().for_each(|topic| topic.1()),
         [word, name] if word == "--only" => only(name)?,
         [word] if word == "--only" => return Err("--only needs a topic".to_string()),
+        #[cfg(oracle)]
+        [word] if word == "--once" => analyses::analyse_once(),
         #[cfg(oracle)]
         [word] if word == "--memory" => memory::print_row(),
         #[cfg(oracle)]

@@ -40,7 +40,7 @@ const SHAPES: [Shape; 9] = [
 
 /// What the call answers and the rows that it leaves.
 #[derive(Debug, PartialEq)]
-struct Left {
+pub struct Left {
     answer: FramesResult,
     rows: FrameRows,
 }
@@ -76,7 +76,7 @@ pub fn untouched(room: [usize; 3]) -> FrameRows {
     }
 }
 
-fn ours(asked: Asked) -> Left {
+pub fn ours(asked: Asked) -> Left {
     let mut rows = untouched(asked.room);
     let answer = frames(asked.settings, &asked.sheet, &asked.samples, &mut rows);
     Left { answer, rows }
@@ -120,7 +120,7 @@ pub fn put_frames(heard: &Heard, rows: &mut FrameRows) {
 }
 
 /// The request's table, then the oracle's frames up to the first that is not finite.
-fn theirs(asked: Asked) -> Left {
+pub fn theirs(asked: Asked) -> Left {
     let mut rows = untouched(asked.room);
     if let Some(refusal) = asked.refusal() {
         return Left { answer: FramesResult { refusal, position: 0, count: 0 }, rows };

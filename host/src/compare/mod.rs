@@ -6,6 +6,7 @@ mod alternates;
 mod analyses;
 mod analysis_calls;
 mod analysis_sides;
+mod block_tracks;
 mod borderline;
 mod cards;
 mod chroma_edges;
@@ -59,7 +60,7 @@ const SEED: u64 = 44_100;
 /// A module's name and its groups.
 type Topic = (&'static str, fn(&mut Groups, &Options));
 
-const TOPICS: [Topic; 21] = [
+const TOPICS: [Topic; 22] = [
     ("numbers", |groups, given| numbers::compare(groups, given.all)),
     ("orders", |groups, _| orders::compare(groups)),
     ("keys", |groups, _| keys::compare(groups)),
@@ -74,6 +75,7 @@ const TOPICS: [Topic; 21] = [
     ("shortening", |groups, _| shortening::compare(groups)),
     ("alternates", |groups, _| alternates::compare(groups)),
     ("segments", |groups, _| segments::compare(groups)),
+    ("block_tracks", |groups, _| block_tracks::compare(groups)),
     ("track_edges", |groups, _| track_edges::compare(groups)),
     ("short_tracks", |groups, _| short_tracks::compare(groups)),
     ("whole_tracks", |groups, _| whole_tracks::compare(groups)),

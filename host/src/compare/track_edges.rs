@@ -21,7 +21,7 @@ const LONE_SEGMENTS: usize = 60;
 /// Something that is done to a call.
 type Breaks = Box<dyn Fn(&mut Asked)>;
 
-fn sheet_of(settings: &Settings) -> Arc<Sheet> {
+pub fn sheet_of(settings: &Settings) -> Arc<Sheet> {
     Arc::new(Tables::new(settings.head()).sheet)
 }
 
@@ -30,7 +30,7 @@ fn asked(what: &'static str, settings: Settings, samples: Vec<f32>) -> Asked {
 }
 
 /// The Rust's own settings but for rate, notes, frame size and hop.
-fn settings(rate: u32, notes: (u8, u8), frame_size: usize, hop_size: usize) -> Settings {
+pub fn settings(rate: u32, notes: (u8, u8), frame_size: usize, hop_size: usize) -> Settings {
     let (minimum_midi_note, maximum_midi_note) = notes;
     Settings { frame_size, hop_size, minimum_midi_note, maximum_midi_note, ..Settings::for_rate(rate) }
 }

@@ -27,6 +27,11 @@ pub fn analysis_of(settings: Settings, track: &[f32]) -> Buffers {
     lent
 }
 
+/// Half a minute with the Rust's own settings.
+pub fn analyse_once() {
+    analysis_of(Settings::for_rate(RATES[0]), &chords(STREAM, RATES[0], 30));
+}
+
 /// As many frames and windows, but small frames of one note: what follows the frames takes as long, and is not lost
 /// beside them.
 fn with_small_frames(settings: Settings) -> Settings {
