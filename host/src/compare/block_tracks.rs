@@ -30,8 +30,11 @@ const SPOILT: [f32; 10] =
     [f32::NAN, f32::INFINITY, f32::NEG_INFINITY, 1e17, 1e18, 1e19, -1e20, 1e22, 1e25, f32::MAX];
 
 /// Kinds of sound at full scale, each sample from its place and a random pattern.
-const FULL_SCALE: [fn(usize, u64) -> bool; 3] =
-    [|_, pattern| pattern % 2 == 0, |place, _| place / 37 % 2 == 0, |place, _| place % 2 == 0];
+const FULL_SCALE: [fn(usize, u64) -> bool; 3] = [
+    |_, pattern| pattern % 2 == 0,
+    |place, _| place / 37 % 2 == 0,
+    |place, _| place * place / 4_001 % 2 == 0,
+];
 
 /// Full scale from the first sample to the last; the kind changes with the length.
 fn loud(seed: u64, length: usize) -> Vec<f32> {

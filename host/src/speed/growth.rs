@@ -22,21 +22,22 @@ fn header(what: &str) {
 
 fn print_row<A>(minutes: usize, work: impl Fn() -> A) {
     let time = median_of(ROUNDS, || seconds(&work));
-    println!("{:30} {time:10.4} {:10.3}", format!("{minutes} minutes"), time * 1e3 / minutes as f64);
+    println!("{minutes:<30} {time:10.4} {:10.3}", time * 1e3 / minutes as f64);
 }
 
 /// Each track is the front of the longest.
 fn print_analyses() {
     let longest = chords(STREAM, RATE, 60 * ANALYSED[ANALYSED.len() - 1]);
-    header("analyses, 44100 Hz");
+    header("minutes analysed, 44100 Hz");
     for minutes in ANALYSED {
         let front = &longest[..60 * minutes * RATE as usize];
         print_row(minutes, || analysis_of(Settings::for_rate(RATE), front));
     }
 }
 
+/// Frames of noise, with a window every half second.
 fn print_segments() {
-    header("segments, a window each 0.5 s");
+    header("minutes cut into segments");
     for minutes in CUT {
         let track = track(60 * minutes);
         print_row(minutes, || segments_of(&track));
