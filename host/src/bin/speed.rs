@@ -76,7 +76,7 @@ const TOPICS: &[Topic] = &[
     #[cfg(oracle)]
     ("filters", filters::print_rows),
     #[cfg(oracle)]
-    ("frames", frames::print_row),
+    ("frames", frames::print_rows),
     #[cfg(oracle)]
     ("segments", segments::print_row),
     #[cfg(oracle)]

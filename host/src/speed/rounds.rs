@@ -48,7 +48,7 @@ impl Pair {
     }
 
     pub fn print(&self, name: &str) {
-        println!("{name:30} {:10.2} {:10.2} {:7.2}", self.ours, self.theirs, self.ratio);
+        println!("{name:30} {:10.3} {:10.3} {:7.3}", self.ours, self.theirs, self.ratio);
     }
 }
 
