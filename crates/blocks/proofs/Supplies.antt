@@ -11,8 +11,8 @@ use Rattle.laws.specs.Front.{list}
 use Rattle.laws.proofs.Front.{length-list, getD-list, getD-front, filled-start, filled-more}
 use Rattle.constant_q.specs.ConstantQ.{constantQOf}
 use Rattle.blocks.specs.Block.{centreAt, allWhole, Inside, chromasOf}
-use Rattle.blocks.specs.Ahead.{middleAt, constantAt, Centred, Tuned, Ahead, FilledFrom, Supplied}
-use Rattle.blocks.specs.declared.ahead.Held.{Held}
+use Rattle.blocks.specs.Stock.{middleAt, constantAt, Centred, Tuned, Stock, FilledFrom, Supplied}
+use Rattle.blocks.specs.declared.stock.Held.{Held}
 
 module _ (chroma : ℕ → List Float) (k : ℕ) where
   -- the chroma of the position j places behind k
@@ -25,7 +25,7 @@ module _ (chroma : ℕ → List Float) (k : ℕ) where
       let here : k ≡ k + 0 = omega arith in
       let same : set block 0 x ≡ set block 0 (behind 0) = ap (set block 0) (e ∙ ap chroma here) in
       record {
-        ahead = record {
+        stock = record {
           long = ap length same ∙ put .long ∙ long;
           few = omega arith;
           entries = λ (j : ℕ) (l : j < 1). ap (λ (b : List (List Float)). getD b j []) (same ∙ put .here) ∙ getD-front behind 1 block j [] l;
@@ -37,7 +37,7 @@ module _ (chroma : ℕ → List Float) (k : ℕ) where
   pub eight-held : {block : List (List Float)} (at : ℕ → List Float) → block ≡ list at 8 → ((j : ℕ) → at j ≡ behind j) → FilledFrom chroma k (record { first = k; count = 8 }) block
   eight-held at e same =
       record {
-        ahead = record {
+        stock = record {
           long = ap length e ∙ length-list at 8;
           few = omega arith;
           entries = λ (j : ℕ) (l : j < 8). ap (λ (b : List (List Float)). getD b j []) e ∙ getD-list at 8 j [] l ∙ same j;
@@ -46,13 +46,13 @@ module _ (chroma : ℕ → List Float) (k : ℕ) where
         some = omega arith;
       }
 
-  pub from-held : {held : Held} {block : List (List Float)} → Ahead chroma held block → held .first ≤ k → k - held .first < held .count → Supplied chroma k (record { held = held; chroma = getD block (k - held .first) [] }) block
+  pub from-held : {held : Held} {block : List (List Float)} → Stock chroma held block → held .first ≤ k → k - held .first < held .count → Supplied chroma k (record { held = held; chroma = getD block (k - held .first) [] }) block
   from-held {held} a begun within =
       let back : held .first + (k - held .first) ≡ k = omega arith in
-      record { told = a .entries (k - held .first) within ∙ ap chroma back; ahead = a; begun = begun }
+      record { told = a .entries (k - held .first) within ∙ ap chroma back; stock = a; begun = begun }
 
   pub from-filled : {held : Held} {block : List (List Float)} → FilledFrom chroma k held block → Supplied chroma k (record { held = held; chroma = getD block 0 [] }) block
-  from-filled {held} f = let e : held .first + 0 ≡ k = omega (arith, f .first) in record { told = f .ahead .entries 0 (f .some) ∙ ap chroma e; ahead = f .ahead; begun = omega (arith, f .first) }
+  from-filled {held} f = let e : held .first + 0 ≡ k = omega (arith, f .first) in record { told = f .stock .entries 0 (f .some) ∙ ap chroma e; stock = f .stock; begun = omega (arith, f .first) }
 
 module _ (lowest : ℕ) (lengths : List ℕ) (coefficients windows samples : List Float) (half hop k : ℕ) where
   same-centre : (j : ℕ) → centreAt (middleAt half hop k) hop j ≡ middleAt half hop (k + j)

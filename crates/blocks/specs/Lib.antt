@@ -1,3 +1,3 @@
 pub mod Eight
 pub mod Block
-pub mod Ahead
+pub mod Stock

@@ -17,9 +17,9 @@ use Rattle.calls.specs.Call.{Call}
 use Rattle.calls.specs.Rows.{Rows, rows}
 use Rattle.goertzel.specs.Goertzel.{goertzelAt}
 use Rattle.constant_q.specs.ConstantQ.{constantQAt}
-use Rattle.blocks.specs.Ahead.{Centred, Tuned, Ahead, Supplied}
-use Rattle.blocks.specs.declared.ahead.Held.{Held}
-use Rattle.blocks.specs.declared.ahead.Handed.{Handed}
+use Rattle.blocks.specs.Stock.{Centred, Tuned, Stock, Supplied}
+use Rattle.blocks.specs.declared.stock.Held.{Held}
+use Rattle.blocks.specs.declared.stock.Handed.{Handed}
 use Rattle.frames.specs.Frame.{loud, middleOf, chromaAt, rowFrom, rowOf, whole}
 use Rattle.frames.specs.Run.{energyAt, frameRow, notFiniteAt, loudBefore, put, holding, ran, runTo, runOf, Ready}
 use Rattle.frames.specs.declared.frame.Row.{Row}
@@ -142,17 +142,17 @@ constantOf c k = constantQAt c (middleOf (c .settings) (k * c .settings .«hop_s
 
 -- what the block holds, none of it for a position behind k alone
 pub record Stocked (c : Call) (held : Held) (block : List (List Float)) (k : ℕ) : Type 0 where
-  pub ahead : Ahead (constantOf c) held block
+  pub stock : Stock (constantOf c) held block
   pub begun : held .first ≤ k
 
 pub stocked-start : (c : Call) {block : List (List Float)} → length block ≡ 8 → Stocked c (record { first = 0; count = 0 }) block 0
-stocked-start c long = record { ahead = record { long = long; few = omega arith; entries = λ (j : ℕ) (l : j < 0). absurd (not-suc-le-zero l) }; begun = omega arith }
+stocked-start c long = record { stock = record { long = long; few = omega arith; entries = λ (j : ℕ) (l : j < 0). absurd (not-suc-le-zero l) }; begun = omega arith }
 
 pub stocked-quiet : {c : Call} {held : Held} {block : List (List Float)} {k : ℕ} → Stocked c held block k → Stocked c held block (k + 1)
-stocked-quiet {k = k} s = let b = s .begun in record { ahead = s .ahead; begun = omega arith }
+stocked-quiet {k = k} s = let b = s .begun in record { stock = s .stock; begun = omega arith }
 
 pub stocked-loud : {c : Call} {h : Handed} {block : List (List Float)} {k : ℕ} → Supplied (constantOf c) k h block → Stocked c (h .held) block (k + 1)
-stocked-loud s = let b = s .begun in record { ahead = s .ahead; begun = omega arith }
+stocked-loud s = let b = s .begun in record { stock = s .stock; begun = omega arith }
 
 -- every position's centre lies on the track, and the rows are as the supply takes them
 pub centred : {c : Call} {before : Rows} {positions : ℕ} → Ready c before positions → Centred (length (c .samples)) (c .settings .«frame_size» / 2) (c .settings .«hop_size») positions

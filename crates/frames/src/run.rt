@@ -10,8 +10,8 @@ use crate::frame::frame_energy;
 use crate::frame::frame_row;
 use crate::frame::is_loud;
 use crate::frame::is_whole;
-use blocks::ahead::Held;
-use blocks::ahead::supply;
+use blocks::stock::Held;
+use blocks::stock::supply;
 use calls::Settings;
 use calls::SheetHead;
 

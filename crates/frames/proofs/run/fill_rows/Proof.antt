@@ -50,7 +50,7 @@ supply-requires c κs =
     let turn = c .before .before .before .before in
     let loop = turn .before .loop in
     let ready = loop .inv .0 .ready in
-    (turn .loop-test .taken, centred ready, tuned ready, loop .inv .1 .ahead, loop .inv .1 .begun)
+    (turn .loop-test .taken, centred ready, tuned ready, loop .inv .1 .stock, loop .inv .1 .begun)
 
 frame-row-requires : tie.Need-frame-row-requires Inv-loop μ-loop
 frame-row-requires c κs =

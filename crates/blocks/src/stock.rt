@@ -2,7 +2,7 @@
 ghost use mathlib.Core.Path.{_≡_};
 ghost use Prim.Native.Nat.{_<_, _≤_};
 ghost use lib.ListN.{length};
-ghost use Rattle.blocks.specs.Ahead.{constantAt, Centred, Tuned, Ahead, FilledFrom, Supplied};
+ghost use Rattle.blocks.specs.Stock.{constantAt, Centred, Tuned, Stock, FilledFrom, Supplied};
 use crate::block::are_whole;
 use crate::block::write_chromas;
 use constant_q::chroma::constant_q_chroma;
@@ -70,7 +70,7 @@ pub fn supply(
     held: Held,
     block: &mut [[f32; 12]],
 ) -> Handed
-    requires { ⌜ (k < positions) × Centred (length (now samples)) half hop positions × Tuned (now lengths) (now coefficients) (length (now windows)) × Ahead (constantAt lowest (now lengths) (now coefficients) (now windows) (now samples) half hop) held (now block) × (held .first ≤ k) ⌝ }
+    requires { ⌜ (k < positions) × Centred (length (now samples)) half hop positions × Tuned (now lengths) (now coefficients) (length (now windows)) × Stock (constantAt lowest (now lengths) (now coefficients) (now windows) (now samples) half hop) held (now block) × (held .first ≤ k) ⌝ }
     ensures { λ r. ⌜ Supplied (constantAt lowest (now (lengths .entry)) (now (coefficients .entry)) (now (windows .entry)) (now (samples .entry)) half hop) k r (now (block .exit)) ⌝ }
 {
     let at = k - held.first;

@@ -1,9 +1,9 @@
 -- The position is held, or the block is filled from it on.
 use borrow.Author.Needs.{needs}
-use Rattle.blocks.specs.Ahead.{constantAt}
+use Rattle.blocks.specs.Stock.{constantAt}
 use Rattle.blocks.proofs.Supplies.{from-held, from-filled}
-use Rattle.blocks.proofs.ahead.supply.Statement.{statement}
-use Rattle.blocks.proofs.ahead.supply.Tie as tie
+use Rattle.blocks.proofs.stock.supply.Statement.{statement}
+use Rattle.blocks.proofs.stock.supply.Tie as tie
 
 sub-at : tie.Need-sub-at
 sub-at c = search needs

@@ -6,8 +6,8 @@ use lib.ListN.{length, getD}
 use lib.Ieee.{Float}
 use Rattle.sheets.specs.Sheet.{joinedLength}
 use Rattle.constant_q.specs.ConstantQ.{constantQOf}
-use Rattle.blocks.specs.declared.ahead.Held.{Held}
-use Rattle.blocks.specs.declared.ahead.Handed.{Handed}
+use Rattle.blocks.specs.declared.stock.Held.{Held}
+use Rattle.blocks.specs.declared.stock.Handed.{Handed}
 
 -- the centre of position k: its frame begins after k hops, and half of it comes before the centre
 abbrev pub middleAt : ℕ → ℕ → ℕ → ℕ
@@ -28,19 +28,19 @@ pub record Tuned (lengths : List ℕ) (coefficients : List Float) (end : ℕ) : 
   pub joined : joinedLength lengths (length lengths) ≡ end
 
 -- entry j of the block is the chroma of position first + j, for each position that is held
-pub record Ahead (chroma : ℕ → List Float) (held : Held) (block : List (List Float)) : Type 0 where
+pub record Stock (chroma : ℕ → List Float) (held : Held) (block : List (List Float)) : Type 0 where
   pub long : length block ≡ 8
   pub few : held .count ≤ 8
   pub entries : (j : ℕ) → j < held .count → getD block j [] ≡ chroma (held .first + j)
 
 -- the block was filled for position k: it holds that one, and perhaps some more
 pub record FilledFrom (chroma : ℕ → List Float) (k : ℕ) (held : Held) (block : List (List Float)) : Type 0 where
-  pub ahead : Ahead chroma held block
+  pub stock : Stock chroma held block
   pub first : held .first ≡ k
   pub some : 0 < held .count
 
 -- the chroma of position k was handed out of the block, which still holds what it says
 pub record Supplied (chroma : ℕ → List Float) (k : ℕ) (h : Handed) (block : List (List Float)) : Type 0 where
   pub told : h .chroma ≡ chroma k
-  pub ahead : Ahead chroma (h .held) block
+  pub stock : Stock chroma (h .held) block
   pub begun : h .held .first ≤ k

@@ -2,10 +2,10 @@
 use borrow.Author.Needs.{needs}
 use native.Mathlib.Omega.{arith}
 use mathlib.Core.Path.{sym, _∙_}
-use Rattle.blocks.specs.Ahead.{constantAt}
+use Rattle.blocks.specs.Stock.{constantAt}
 use Rattle.blocks.proofs.Supplies.{one-held, block-held, last-near, inside}
-use Rattle.blocks.proofs.ahead.refill.Statement.{statement}
-use Rattle.blocks.proofs.ahead.refill.Tie as tie
+use Rattle.blocks.proofs.stock.refill.Statement.{statement}
+use Rattle.blocks.proofs.stock.refill.Tie as tie
 
 mul-centre : tie.Need-mul-centre
 mul-centre c = let start = c .before .before .before .before in omega (arith, start .pre .1 .on (start .args .k) (start .pre .0))
