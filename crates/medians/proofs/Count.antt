@@ -36,11 +36,11 @@ pub data Ascending {A : Type 0} (key : A → ℕ) : List A → Type 0 where
   ascends-more : {x : A} {xs : List A} → Each (λ (y : A). key x ≤ key y) xs → Ascending key xs → Ascending key (x ∷ xs)
 
 module _ {A : Type 0} (key : A → ℕ) where
-  counted-in : (p : ℕ) (x : A) (xs : List A) → key x < p → keysBelow key p (x ∷ xs) ≡ 1 + keysBelow key p xs
+  pub counted-in : (p : ℕ) (x : A) (xs : List A) → key x < p → keysBelow key p (x ∷ xs) ≡ 1 + keysBelow key p xs
   unfolding keysBelow
   counted-in p x xs h = rw (lt-ltb (key x) p h)
 
-  passed-over : (p : ℕ) (x : A) (xs : List A) → p ≤ key x → keysBelow key p (x ∷ xs) ≡ keysBelow key p xs
+  pub passed-over : (p : ℕ) (x : A) (xs : List A) → p ≤ key x → keysBelow key p (x ∷ xs) ≡ keysBelow key p xs
   unfolding keysBelow
   passed-over p x xs h = rw (le-ltb (key x) p h) (omega arith)
 
@@ -77,7 +77,7 @@ module _ {A : Type 0} (key : A → ℕ) where
   below-zero [] = refl
   below-zero (x ∷ xs) = passed-over 0 x xs (omega arith) ∙ below-zero xs
 
-  place-least : {xs : List A} → Ascending key xs → (k : ℕ) (d : A) → k < length xs → keysBelow key (key (getD xs k d)) xs ≤ k
+  pub place-least : {xs : List A} → Ascending key xs → (k : ℕ) (d : A) → k < length xs → keysBelow key (key (getD xs k d)) xs ≤ k
   place-least ascends-none k d h = absurd (not-suc-le-zero h)
   place-least (ascends-more {x = x} {xs = xs} hs a) zero d h = let none = passed-over (key x) x xs (omega arith) in let rest = below-least hs in omega arith
   place-least (ascends-more {x = x} {xs = xs} hs a) (suc k) d h =
@@ -88,7 +88,7 @@ module _ {A : Type 0} (key : A → ℕ) where
         | inr g ↦ omega (arith, passed-over q x xs g)
       ]
 
-  place-most : {xs : List A} → Ascending key xs → (k : ℕ) (d : A) → k < length xs → k < keysBelow key (key (getD xs k d) + 1) xs
+  pub place-most : {xs : List A} → Ascending key xs → (k : ℕ) (d : A) → k < length xs → k < keysBelow key (key (getD xs k d) + 1) xs
   place-most ascends-none k d h = absurd (not-suc-le-zero h)
   place-most (ascends-more {x = x} {xs = xs} hs a) zero d h = let one = counted-in (key x + 1) x xs (omega arith) in omega arith
   place-most (ascends-more {x = x} {xs = xs} hs a) (suc k) d h =
@@ -98,7 +98,7 @@ module _ {A : Type 0} (key : A → ℕ) where
       let one = counted-in (q + 1) x xs (omega arith) in
       omega arith
 
-  not-beyond : (xs : List A) (p q k : ℕ) → keysBelow key p xs ≤ k → k < keysBelow key (q + 1) xs → p ≤ q
+  pub not-beyond : (xs : List A) (p q k : ℕ) → keysBelow key p xs ≤ k → k < keysBelow key (q + 1) xs → p ≤ q
   not-beyond xs p q k h l =
       elim (lt-or-ge q p) [
         | inl m ↦ let grows = below-mono (q + 1) p (omega arith) xs in omega arith

@@ -13,11 +13,10 @@ use Rattle.laws.specs.Order.{orderKey}
 use Rattle.laws.specs.Turns.{turns}
 use Rattle.laws.proofs.Turns.{turns-last}
 use Rattle.medians.specs.Median.{sortedOf, medianOf}
-use Rattle.medians.specs.Search.{countTurn, countBelow, keyAtRank, valueOfKey}
+use Rattle.medians.specs.Search.{countTurn, countBelow, keyAtRank, SoughtIn, valueOfKey}
 use Rattle.medians.proofs.Count.{keysBelow, Each, each-none, each-more, each-at, below-append, below-all, below-zero, key-at}
 use Rattle.medians.proofs.Sorted.{below-sorted, length-sorted, each-sorted, ascending-sorted, InSingle}
 use Rattle.medians.proofs.Keys.{key-lt, value-back}
-use Rattle.medians.proofs.Halves.{SoughtIn, one-left}
 
 one-counted : (t : Bool) (n : ℕ) → cond t (n + 1) n ≡ n + (cond t 1 0 + 0)
 one-counted true n = omega arith
@@ -36,29 +35,30 @@ count-below-is ws (suc n) bound h =
     ∙ sym (below-append (orderKey binary32) bound (take n ws) (x ∷ []))
     ∙ ap (keysBelow (orderKey binary32) bound) (sym (take-suc ws n nan h))
 
-each-take : (ws : List Float) (n : ℕ) → ((i : ℕ) → InSingle (getD ws i nan)) → Each InSingle (take n ws)
+pub each-take : (ws : List Float) (n : ℕ) → ((i : ℕ) → InSingle (getD ws i nan)) → Each InSingle (take n ws)
 each-take ws zero h = each-none
 each-take [] (suc n) h = each-none
 each-take (w ∷ ws) (suc n) h = each-more (h 0) (each-take ws n (λ (i : ℕ). h (suc i)))
 
 -- ---- the search
-module _ (ws : List Float) (n rank : ℕ) (inside : rank < n) (room : n ≤ length ws) where
-  pub search-starts : SoughtIn (countBelow ws n) rank 0 0x1_0000_0000
-  search-starts =
+module _ (ws : List Float) (n rank : ℕ) where
+  pub search-starts : rank < n → n ≤ length ws → SoughtIn ws n rank 0 0x1_0000_0000
+  search-starts inside room =
       let none : keysBelow (orderKey binary32) 0 (take n ws) ≡ 0 = below-zero (orderKey binary32) (take n ws) in
       let all = below-all (orderKey binary32) 0x1_0000_0000 (key-lt binary32) (take n ws) in
-      record { bits = 32; power = refl; least = omega (arith, count-below-is ws n 0 room, none); most = omega (arith, count-below-is ws n 0x1_0000_0000 room, all, length-take-le n ws room) }
+      record { inside = inside; room = room; some = omega arith; keys = omega arith; least = omega (arith, count-below-is ws n 0 room, none); most = omega (arith, count-below-is ws n 0x1_0000_0000 room, all, length-take-le n ws room) }
 
-  same-count : (p : ℕ) → countBelow ws n p ≡ keysBelow (orderKey binary32) p (sortedOf (take n ws))
-  same-count p = count-below-is ws n p room ∙ sym (below-sorted (orderKey binary32) p (take n ws))
-
-  pub search-ends : ((i : ℕ) → InSingle (getD ws i nan)) → (key width : ℕ) → SoughtIn (countBelow ws n) rank key width → width ≤ 1 → key ≡ keyAtRank ws n rank
+  pub search-ends : ((i : ℕ) → InSingle (getD ws i nan)) → (key width : ℕ) → SoughtIn ws n rank key width → width ≤ 1 → key ≡ keyAtRank ws n rank
   unfolding keyAtRank
   search-ends fit key width now last =
       let xs = take n ws in
-      key-at (orderKey binary32) (ascending-sorted (each-take ws n fit)) rank nan (omega (arith, length-sorted xs, length-take-le n ws room)) key
+      let one : width ≡ 1 = omega (arith, now .some) in
+      key-at (orderKey binary32) (ascending-sorted (each-take ws n fit)) rank nan (omega (arith, length-sorted xs, length-take-le n ws (now .room), now .inside)) key
       (subst (λ (m : ℕ). m ≤ rank) (same-count key) (now .least))
-      (subst (λ (m : ℕ). rank < m) (same-count (key + 1)) (one-left (countBelow ws n) rank key width now last))
+      (subst (λ (m : ℕ). rank < m) (same-count (key + 1)) (subst (λ (w : ℕ). rank < countBelow ws n (key + w)) one (now .most)))
+    where
+      same-count : (p : ℕ) → countBelow ws n p ≡ keysBelow (orderKey binary32) p (sortedOf (take n ws))
+      same-count p = count-below-is ws n p (now .room) ∙ sym (below-sorted (orderKey binary32) p (take n ws))
 
 -- ---- the median is the value with the key at the middle rank
 pub median-by-key : (ws : List Float) (n rank key : ℕ) → 0 < n → n ≤ length ws → ((i : ℕ) → InSingle (getD ws i nan)) → rank ≡ n / 2 → key ≡ keyAtRank ws n rank → valueOfKey binary32 key ≡ medianOf (take n ws)

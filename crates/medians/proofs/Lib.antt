@@ -3,5 +3,8 @@ pub mod Count
 pub mod Sorted
 pub mod Keys
 mod Halves
-mod Found
+pub mod Found
+mod Under
+mod Kept
+mod Moved
 mod Zeroed

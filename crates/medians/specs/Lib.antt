@@ -1,2 +1,3 @@
 pub mod Median
 pub mod Search
+pub mod Narrow

@@ -1,12 +1,18 @@
-// The median of f32 values by selection: its order key is found bit by bit, by counting.
+// The median of f32 values by selection: those that a sample shows far from it go, then its order key is found bit by bit, by counting.
 ghost use mathlib.Core.Path.{_≡_};
 ghost use Prim.Native.Nat.{_/_, _<_, _≤_};
-ghost use lib.ListN.{length, take, replicate};
+ghost use lib.ListN.{length, take, drop, replicate};
 ghost use lib.Ieee.{binary32};
 ghost use Rattle.laws.specs.Front.{front};
 ghost use Rattle.laws.specs.Values.{plusZero};
 ghost use Rattle.medians.specs.Median.{medianOf};
-ghost use Rattle.medians.specs.Search.{countBelow, keyAtRank, patternOfKey, valueOfKey};
+ghost use Rattle.medians.specs.Search.{countBelow, keyAtRank, SoughtIn, patternOfKey, valueOfKey};
+
+mod narrowing;
+
+use narrowing::Sought;
+use narrowing::narrow;
+use narrowing::spread_at;
 use numbers::single::from_pattern;
 use numbers::single::order_key;
 
@@ -27,20 +33,45 @@ fn count_below(work: &[f32], count: usize, bound: u64) -> usize
     counted
 }
 
-// The order key of the value at `rank` in total order: half of the keys that are left go in a turn.
-fn find_key(work: &[f32], count: usize, rank: usize) -> u32
-    requires { ⌜ (rank < count) × (count ≤ length (now work)) ⌝ }
-    ensures { λ r. ⌜ r ≡ keyAtRank (now (work .entry)) count rank ⌝ }
+// The order key of the value at a rank, where it is one of the `width` keys from `low` on: half of them go in a turn.
+fn bisect(work: &[f32], sought: Sought) -> u32
+    requires { ⌜ SoughtIn (now work) (sought .left) (sought .rank) (sought .low) (sought .width) ⌝ }
+    ensures { λ r. ⌜ r ≡ keyAtRank (now (work .entry)) (sought .left) (sought .rank) ⌝ }
 {
-    let mut key = 0u64;
-    let mut width = 0x1_0000_0000u64;
+    let left = sought.left;
+    let rank = sought.rank;
+    let mut key = sought.low;
+    let mut width = sought.width;
     while width > 1 {
-        width /= 2;
-        if count_below(work, count, key + width) <= rank {
-            key += width;
+        let half = width / 2;
+        if count_below(work, left, key + half) <= rank {
+            key += half;
+            width -= half;
+        } else {
+            width = half;
         }
     }
     key as u32
+}
+
+// The order key of the value at `rank` in total order; of the first `count` values those that can't be it go.
+fn find_key(work: &mut [f32], count: usize, rank: usize) -> u32
+    requires { ⌜ (rank < count) × (count ≤ length (now work)) ⌝ }
+    ensures { λ r. ⌜ (r ≡ keyAtRank (now (work .entry)) count rank) × (drop count (now (work .exit)) ≡ drop count (now (work .entry))) ⌝ }
+{
+    let mut sought = Sought {
+        left: count,
+        rank: rank,
+        low: 0,
+        width: 0x1_0000_0000,
+    };
+    let mut turn = 0;
+    while turn < 8 {
+        let spread = spread_at(turn);
+        turn += 1;
+        sought = narrow(work, sought, spread);
+    }
+    bisect(work, sought)
 }
 
 // The pattern of the value with an order key.
@@ -55,7 +86,7 @@ fn pattern_of_key(key: u32) -> u32
 }
 
 // The value with an order key.
-fn value_of_key(key: u32) -> f32
+pub fn value_of_key(key: u32) -> f32
     ensures { λ r. ⌜ r ≡ valueOfKey binary32 key ⌝ }
 {
     from_pattern(pattern_of_key(key))

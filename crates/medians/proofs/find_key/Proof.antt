@@ -1,55 +1,56 @@
--- Half of the keys go in a turn, and the one at the rank stays.
-use lib.Pow.{pow-pos}
-use Prim.Native.Nat.{_+_, _≤_}
+-- Each turn leaves the key at the rank as it was; among those left it is found by halves.
+use mathlib.Core.Path.{_≡_, refl, _∙_}
+use Prim.Native.Nat.{_≤_, _-_}
 use native.Mathlib.Omega.{arith}
-use Rattle.medians.specs.Search.{countBelow}
-use Rattle.medians.proofs.Halves.{SoughtIn, upper-half, lower-half}
-use Rattle.medians.proofs.Found.{search-starts, search-ends}
+use lib.ListN.{length}
+use Rattle.medians.specs.Search.{SoughtIn}
+use Rattle.medians.specs.Narrow.{Narrowed}
+use Rattle.medians.proofs.Found.{search-starts}
+use Rattle.medians.proofs.Kept.{narrowed-same, narrowed-more}
 use borrow.Author.Needs.{needs}
 use Rattle.medians.proofs.find_key.Statement.{statement}
 use Rattle.medians.proofs.find_key.Tie as tie
+use Rattle.medians.proofs.find_key.Reads as reads
+use Rattle.medians.proofs.find_key.Lts as lts
+use Rattle.medians.proofs.bisect.Reads as bisect-reads
+use Rattle.medians.proofs.narrowing.narrow.Reads as narrow-reads
+use Rattle.medians.proofs.narrowing.spread_at.Reads as spread-at-reads
 
 abbrev Inv-loop : tie.InvT-loop
-Inv-loop work count rank key₀ width₀ key width = (key + width ≤ 0x1_0000_0000) × SoughtIn (countBelow work count) rank key width
+Inv-loop work₀ count rank sought₀ turn₀ work sought turn = (turn ≤ 8) × SoughtIn work (sought .left) (sought .rank) (sought .low) (sought .width) × Narrowed work₀ count rank work (sought .left) (sought .rank) × (length work ≡ length work₀)
 
 abbrev μ-loop : tie.MeasureT-loop
-μ-loop work count rank key₀ width₀ key width = width
+μ-loop work₀ count rank sought₀ turn₀ work sought turn = 8 - turn
 
 loop-holds : tie.Need-loop-holds Inv-loop μ-loop
-loop-holds c = let start = c .before in (omega arith, search-starts _ _ _ (start .pre .0) (start .pre .1))
+loop-holds c = let start = c .before in (omega arith, search-starts _ _ _ (start .pre .0) (start .pre .1), narrowed-same _ _ _, refl)
 
-add-count-below : tie.Need-add-count-below Inv-loop μ-loop
-add-count-below c = search needs
+spread-at-requires : tie.Need-spread-at-requires Inv-loop μ-loop
+spread-at-requires c κs = search needs
 
-count-below-requires : tie.Need-count-below-requires Inv-loop μ-loop
-count-below-requires c κs = search needs
+add-turn : tie.Need-add-turn Inv-loop μ-loop
+add-turn c = search needs
 
-add-key : tie.Need-add-key Inv-loop μ-loop
-add-key c = search needs
+narrow-requires : tie.Need-narrow-requires Inv-loop μ-loop
+narrow-requires c κs = (c .before .before .before .loop .inv .1, c .before .spread-at .ensures)
 
 loop-less : tie.Need-loop-less Inv-loop μ-loop
 loop-less c = search needs
 
 loop-again : tie.Need-loop-again Inv-loop μ-loop
 loop-again c =
-    let turn = c .before .before .before in
-    (omega arith, upper-half _ _ _ _ (turn .loop .inv .1) (c .before .before .loop-test .taken) (omega (arith, c .before .count-below .ensures)))
+    let next = c .before .before in
+    let turn = next .before .before .before .before .loop in
+    (omega arith, next .narrow .ensures .0, narrowed-more (turn .inv .2) (next .narrow .ensures .1), c .before .work .given ∙ turn .inv .3)
 
-loop-less-2 : tie.Need-loop-less-2 Inv-loop μ-loop
-loop-less-2 c = search needs
+bisect-requires : tie.Need-bisect-requires Inv-loop μ-loop
+bisect-requires c κs = c .before .before .loop .inv .1
 
-loop-again-2 : tie.Need-loop-again-2 Inv-loop μ-loop
-loop-again-2 c =
-    let turn = c .before .before .before in
-    (omega arith, lower-half _ _ _ _ (turn .loop .inv .1) (c .before .before .loop-test .taken) (omega (arith, c .before .count-below .ensures)))
-
-cast-result : tie.Need-cast-result Inv-loop μ-loop
-cast-result c = let some = pow-pos (c .before .loop .inv .1 .bits) in search needs
+same-length : tie.Need-same-length Inv-loop μ-loop
+same-length c = c .before .before .before .loop .inv .3
 
 returns : tie.Need-returns Inv-loop μ-loop
-returns c =
-    let start = c .before .before .before in
-    search-ends (start .args .work .now) _ _ (start .pre .0) (start .pre .1) (c .before .before .shared-slice-known .given) _ _ (c .before .loop .inv .1) (c .loop-test .left)
+returns c = let last = c .before .before .before .loop .inv in (c .bisect .ensures ∙ last .2 .same-key, last .2 .same-rest)
 
 pub find-key-spec : {M : Type 1} → statement M
 find-key-spec =
@@ -58,12 +59,11 @@ find-key-spec =
     Inv-loop
     μ-loop
     loop-holds
-    add-count-below
-    count-below-requires
-    add-key
+    spread-at-requires
+    add-turn
+    narrow-requires
     loop-less
     loop-again
-    loop-less-2
-    loop-again-2
-    cast-result
+    bisect-requires
+    same-length
     returns)

@@ -2,6 +2,8 @@
 use mathlib.Core.Path.{_∙_}
 use native.Mathlib.Omega.{arith}
 use Rattle.medians.proofs.Found.{median-by-key}
+use Rattle.laws.specs.Values.{plusZero}
+use Rattle.medians.proofs.Zeroed.{zeroed-rest}
 use borrow.Author.Needs.{needs}
 use Rattle.medians.proofs.select.Statement.{statement}
 use Rattle.medians.proofs.select.Tie as tie
@@ -24,9 +26,9 @@ same-length c = search needs
 returns : tie.Need-returns
 returns c =
     let zeroed = c .before .before .before in
-    let ranked = zeroed .before .before in
-    let start = ranked .before .before .before .before in
-    (c .value-of-key .ensures ∙ median-by-key (start .args .work .now) _ _ _ (start .pre .0) (start .pre .1) (ranked .before .before .before .slice-known .given) (ranked .before .middle-rank .ensures) (ranked .find-key .ensures), zeroed .set-to-zero .ensures)
+    let found = zeroed .before .before .before .before in
+    let start = found .before .before .before .before in
+    (c .value-of-key .ensures ∙ median-by-key (start .args .work .now) _ _ _ (start .pre .0) (start .pre .1) (found .before .before .before .slice-known .given) (found .before .middle-rank .ensures) (found .find-key .ensures .0), zeroed-rest plusZero (start .args .count) (start .args .work .now) _ (zeroed .set-to-zero .ensures) (found .find-key .ensures .1))
 
 pub select-spec : {M : Type 1} → statement M
 select-spec =
