@@ -2,3 +2,4 @@
 mod Classes
 mod Emptied
 mod Shifts
+mod Weights

@@ -9,9 +9,13 @@ use Rattle.laws.specs.Values.{plusZero, one}
 use Rattle.laws.specs.Pick.{maximumNumber}
 use Rattle.roots.specs.Root.{rootOf}
 
--- 1 and four times the rise of the energies' square roots; 0x4080_0000 is 4
+-- 1 and four times the rise; 0x4080_0000 is 4
+unfoldable pub riseWeight : Float → Float → Float
+riseWeight low high = add binary32 one (mul binary32 (maximumNumber (sub binary32 high low) plusZero) (ofBits binary32 0x4080_0000))
+
+-- 1 and four times the rise of the energies' square roots
 unfoldable pub onsetWeight : Float → Float → Float
-onsetWeight before energy = add binary32 one (mul binary32 (maximumNumber (sub binary32 (rootOf energy) (rootOf before)) plusZero) (ofBits binary32 0x4080_0000))
+onsetWeight before energy = riseWeight (rootOf before) (rootOf energy)
 
 -- 1 for the first frame
 unfoldable pub weightAt : List Float → ℕ → Float

@@ -8,10 +8,10 @@ use Rattle.chroma.proofs.weighted.weigh_bin.Statement.{statement}
 use Rattle.chroma.proofs.weighted.weigh_bin.Tie as tie
 
 abbrev Inv-loop : tie.InvT-loop
-Inv-loop frames energies bin count work₀ j₀ work j = (j ≤ count) × Filled (weightedAt frames energies bin) work₀ work j
+Inv-loop frames energies weights bin count work₀ j₀ work j = (j ≤ count) × Filled (weightedAt frames energies bin) work₀ work j
 
 abbrev μ-loop : tie.MeasureT-loop
-μ-loop frames energies bin count work₀ j₀ work j = count - j
+μ-loop frames energies weights bin count work₀ j₀ work j = count - j
 
 loop-holds : tie.Need-loop-holds Inv-loop μ-loop
 loop-holds c = (omega arith, filled-start _ _)
@@ -28,8 +28,8 @@ mul-work c = search needs
 array-read-work : tie.Need-array-read-work Inv-loop μ-loop
 array-read-work c = search needs
 
-weight-at-requires : tie.Need-weight-at-requires Inv-loop μ-loop
-weight-at-requires c κs = search needs
+weight-from-requires : tie.Need-weight-from-requires Inv-loop μ-loop
+weight-from-requires c κs = search needs
 
 mul-work-2 : tie.Need-mul-work-2 Inv-loop μ-loop
 mul-work-2 c = search needs
@@ -45,13 +45,13 @@ loop-less c = search needs
 
 loop-again : tie.Need-loop-again Inv-loop μ-loop
 unfolding weightedAt
-loop-again c = let turn = c .before .before .before .loop in (omega arith, rw (c .weight-at .ensures) (filled-more _ _ _ (turn .j) (turn .inv .1) (omega arith)))
+loop-again c = let turn = c .before .before .before .loop in (omega arith, rw (c .weight-from .ensures) (filled-more _ _ _ (turn .j) (turn .inv .1) (omega arith)))
 
 same-length : tie.Need-same-length Inv-loop μ-loop
 same-length c = c .before .loop .inv .1 .long
 
 returns : tie.Need-returns Inv-loop μ-loop
-returns c = let last = c .before in filled-to _ _ _ (last .loop .j) (last .before .before .before .args .count) (last .loop .inv .1) (omega arith)
+returns c = let last = c .before in filled-to _ _ _ (last .loop .j) (last .before .before .before .before .args .count) (last .loop .inv .1) (omega arith)
 
 pub weigh-bin-spec : {M : Type 1} → statement M
 weigh-bin-spec =
@@ -64,7 +64,7 @@ weigh-bin-spec =
     shared-slice-copy-out-values
     mul-work
     array-read-work
-    weight-at-requires
+    weight-from-requires
     mul-work-2
     slice-write-work
     add-j

@@ -1,0 +1,19 @@
+-- The callee's definition, put in.
+use lib.Ieee.{ofBits}
+use Rattle.chroma.specs.Onsets.{riseWeight}
+use borrow.Author.Needs.{needs}
+use Rattle.chroma.proofs.onsets.rise_weight.Statement.{statement}
+use Rattle.chroma.proofs.onsets.rise_weight.Tie as tie
+use Rattle.chroma.proofs.onsets.rise_weight.Reads as reads
+use Rattle.chroma.proofs.onsets.rise_weight.Lts as lts
+use Rattle.numbers.proofs.single.larger.Reads as larger-reads
+
+larger-requires : tie.Need-larger-requires
+larger-requires c κs = search needs
+
+returns : tie.Need-returns
+unfolding riseWeight ofBits
+returns c = rw (c .larger .ensures)
+
+pub rise-weight-spec : {M : Type 1} → statement M
+rise-weight-spec = tie.close (tie.spec larger-requires returns)
