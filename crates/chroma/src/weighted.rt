@@ -35,8 +35,7 @@ fn weigh_bin(
 {
     let mut j = 0;
     while j < count {
-        let values = frames[j];
-        work[j] = values[bin] * weight_from(weights, energies, j);
+        work[j] = frames[j][bin] * weight_from(weights, energies, j);
         j += 1;
     }
 }
@@ -62,11 +61,11 @@ fn medians_by_weights(
     chroma
 }
 
-// How many weights are kept for the twelve bins: those of half an hour at the usual settings.
+// How many weights are kept for the twelve bins: those of twelve minutes at the usual settings.
 fn weights_kept(count: usize) -> usize
-    ensures { λ r. ⌜ (r ≤ count) × (r ≤ 8192) ⌝ }
+    ensures { λ r. ⌜ (r ≤ count) × (r ≤ 16384) ⌝ }
 {
-    if count < 8192 { count } else { 8192 }
+    if count < 16384 { count } else { 16384 }
 }
 
 // Every bin's median over the first `count` frames; the work numbers used end as +0.
@@ -80,7 +79,7 @@ pub fn weighted_medians(
     ensures { λ r. ⌜ (r ≡ weightedMedians (now (frames .entry)) (now (energies .entry)) count) × (now (work .exit) ≡ front (replicate count plusZero) (now (work .entry))) ⌝ }
 {
     let kept = weights_kept(count);
-    let mut room = [0.0; 8192];
+    let mut room = [0.0; 16384];
     write_weights(energies, kept, &mut room);
     medians_by_weights(frames, energies, &room[..kept], count, work)
 }

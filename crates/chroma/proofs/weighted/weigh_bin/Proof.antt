@@ -1,11 +1,14 @@
 -- The work numbers are written from the front, a frame a turn.
-use borrow.Author.Needs.{needs}
 use native.Mathlib.Omega.{arith}
 use Prim.Native.Nat.{_≤_, _-_}
 use Rattle.laws.proofs.Front.{Filled, filled-start, filled-more, filled-to}
 use Rattle.chroma.specs.Weighted.{weightedAt}
+use borrow.Author.Needs.{needs}
 use Rattle.chroma.proofs.weighted.weigh_bin.Statement.{statement}
 use Rattle.chroma.proofs.weighted.weigh_bin.Tie as tie
+use Rattle.chroma.proofs.weighted.weigh_bin.Reads as reads
+use Rattle.chroma.proofs.weighted.weigh_bin.Lts as lts
+use Rattle.chroma.proofs.weighted.weight_from.Reads as weight-from-reads
 
 abbrev Inv-loop : tie.InvT-loop
 Inv-loop frames energies weights bin count work₀ j₀ work j = (j ≤ count) × Filled (weightedAt frames energies bin) work₀ work j
@@ -16,23 +19,23 @@ abbrev μ-loop : tie.MeasureT-loop
 loop-holds : tie.Need-loop-holds Inv-loop μ-loop
 loop-holds c = (omega arith, filled-start _ _)
 
-mul-values : tie.Need-mul-values Inv-loop μ-loop
-mul-values c = search needs
-
-shared-slice-copy-out-values : tie.Need-shared-slice-copy-out-values Inv-loop μ-loop
-shared-slice-copy-out-values c = search needs
-
 mul-work : tie.Need-mul-work Inv-loop μ-loop
 mul-work c = search needs
 
-array-read-work : tie.Need-array-read-work Inv-loop μ-loop
-array-read-work c = search needs
+mul-work-2 : tie.Need-mul-work-2 Inv-loop μ-loop
+mul-work-2 c = search needs
+
+index-1-work : tie.Need-index-1-work Inv-loop μ-loop
+index-1-work c = search needs
+
+index-2-work : tie.Need-index-2-work Inv-loop μ-loop
+index-2-work c = search needs
 
 weight-from-requires : tie.Need-weight-from-requires Inv-loop μ-loop
 weight-from-requires c κs = search needs
 
-mul-work-2 : tie.Need-mul-work-2 Inv-loop μ-loop
-mul-work-2 c = search needs
+mul-work-3 : tie.Need-mul-work-3 Inv-loop μ-loop
+mul-work-3 c = search needs
 
 slice-write-work : tie.Need-slice-write-work Inv-loop μ-loop
 slice-write-work c = let l = c .before .before .before .loop .inv .1 .long in omega arith
@@ -60,12 +63,12 @@ weigh-bin-spec =
     Inv-loop
     μ-loop
     loop-holds
-    mul-values
-    shared-slice-copy-out-values
     mul-work
-    array-read-work
-    weight-from-requires
     mul-work-2
+    index-1-work
+    index-2-work
+    weight-from-requires
+    mul-work-3
     slice-write-work
     add-j
     loop-less
