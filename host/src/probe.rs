@@ -36,6 +36,16 @@ unsafe extern "C" {
     fn probe_onset_weight(energies: *const f32, lent: usize, place: usize) -> f32;
     fn probe_tuning(frames: *const Chroma, lent: usize, count: usize) -> f32;
     fn probe_median(work: *mut f32, lent: usize, count: usize) -> f32;
+    fn probe_weighted_medians(
+        answer: *mut Chroma,
+        frames: *const Chroma,
+        lent_frames: usize,
+        energies: *const f32,
+        lent_energies: usize,
+        work: *mut f32,
+        lent_work: usize,
+        count: usize,
+    ) -> *mut Chroma;
 }
 
 /// The square roots of the numbers above 0, the others as they are.
@@ -72,4 +82,16 @@ pub fn shift(chroma: &Chroma, offset: f32) -> Chroma {
 pub fn median(work: &mut [f32], count: usize) -> f32 {
     // SAFETY: pointer and count are one exclusive slice, which outlives the call.
     unsafe { probe_median(work.as_mut_ptr(), work.len(), count) }
+}
+
+/// The medians of the bins over the first `count` frames, each weighted by onset; zeros where there are none or fewer.
+pub fn weighted_medians(frames: &[Chroma], energies: &[f32], work: &mut [f32], count: usize) -> Chroma {
+    let (frames_at, energies_at, work_at) = (frames.as_ptr(), energies.as_ptr(), work.as_mut_ptr());
+    let (rows, numbers, room) = (frames.len(), energies.len(), work.len());
+    // SAFETY: each pointer and count are one slice, which outlives the call, the last exclusive; the call writes its whole answer.
+    unsafe {
+        answer_of(|answer| {
+            probe_weighted_medians(answer, frames_at, rows, energies_at, numbers, work_at, room, count)
+        })
+    }
 }

@@ -140,7 +140,7 @@ module _ {c : Call} {positions : ℕ} {before now : Rows} {k n : ℕ} (reached :
 abbrev pub constantOf : Call → ℕ → List Float
 constantOf c k = constantQAt c (middleOf (c .settings) (k * c .settings .«hop_size»))
 
--- what the block holds, none of it for a position behind k alone
+-- what the block holds, from a position at k or before it on
 pub record Stocked (c : Call) (held : Held) (block : List (List Float)) (k : ℕ) : Type 0 where
   pub stock : Stock (constantOf c) held block
   pub begun : held .first ≤ k

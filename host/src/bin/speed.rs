@@ -28,6 +28,9 @@ mod growth;
 #[path = "../speed/leaves.rs"]
 mod leaves;
 #[cfg(oracle)]
+#[path = "../speed/medians.rs"]
+mod medians;
+#[cfg(oracle)]
 #[path = "../speed/memory.rs"]
 mod memory;
 #[path = "../compare/random.rs"]
@@ -77,6 +80,8 @@ const TOPICS: &[Topic] = &[
     ("filters", filters::print_rows),
     #[cfg(oracle)]
     ("frames", frames::print_rows),
+    #[cfg(oracle)]
+    ("medians", medians::print_row),
     #[cfg(oracle)]
     ("segments", segments::print_row),
     #[cfg(oracle)]

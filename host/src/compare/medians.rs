@@ -67,6 +67,27 @@ fn subnormals(seed: u64) -> impl Iterator<Item = f32> {
     patterns(seed, 62).map(move |pattern| f32::from_bits(digits(pattern) | (pattern >> 63 << 31) as u32))
 }
 
+/// All equal, two values only, rising, falling, and NaNs and zeros of both signs among a few numbers.
+fn shapes(seed: u64) -> impl Iterator<Item = Work> {
+    const FEW: [f32; 6] = [f32::NAN, 0.0, -0.0, f32::INFINITY, f32::NEG_INFINITY, 1.0];
+    let value = |shape: usize, place: usize, pattern: u64| match shape {
+        0 => 0.25,
+        1 => [0.0, 0.5][pattern as usize % 2],
+        2 => place as f32,
+        3 => -(place as f32),
+        4 => [-0.0, 0.0][pattern as usize % 2],
+        5 => FEW[pattern as usize % FEW.len()],
+        6 => [f32::NAN, 1e-45, -1e-45][pattern as usize % 3],
+        _ => (pattern % 9) as f32 - 4.0,
+    };
+    let numbers = move |shape: usize, count: usize| {
+        let patterns = patterns(seed, 63 + shape as u64).take(count + NOT_LENT);
+        patterns.enumerate().map(move |(place, pattern)| value(shape, place, pattern)).collect()
+    };
+    let counts = || (1..=200).chain([257, 1_000, 4_099, 20_000]);
+    (0..8).flat_map(move |shape| counts().map(move |count| (numbers(shape, count), count)))
+}
+
 /// Work of every length with every count, none and too many among them; the numbers fall.
 fn every_length() -> impl Iterator<Item = Work> {
     let work = |lent: usize| (0..lent + NOT_LENT).map(|place| 1000.0 - place as f32).collect::<Vec<_>>();
@@ -82,5 +103,6 @@ pub fn compare(groups: &mut Groups) {
     }
     groups.group("medians, neighbours", every_count(neighbours(seed)), ours, theirs);
     groups.group("medians, subnormals", every_count(subnormals(seed)), ours, theirs);
+    groups.group("medians, shapes", shapes(seed), ours, theirs);
     groups.group("medians, every length", every_length(), ours, theirs);
 }

@@ -1,0 +1,38 @@
+//! The twelve weighted medians of a track's frames beside the oracle's way: seconds for one call.
+use super::SEED;
+use super::chromas::{draws, uniform};
+use super::key_lime::expose::compute_onset_weights;
+use super::random::patterns;
+use super::rounds::{Pair, header};
+use std::array;
+use ulyptesh::probe::weighted_medians;
+
+/// The frames of four minutes.
+const FRAMES: usize = 5_166;
+
+/// Calls of a round, beside which one is short.
+const CALLS: usize = 100;
+
+/// What `analyze` does between the frames and the tuning.
+fn theirs(frames: &[[f32; 12]], energies: &[f32]) -> [f32; 12] {
+    let weights = compute_onset_weights(energies);
+    array::from_fn(|bin| {
+        let mut values: Vec<f32> =
+            frames.iter().zip(&weights).map(|(frame, weight)| frame[bin] * weight).collect();
+        *values.select_nth_unstable_by(FRAMES / 2, f32::total_cmp).1
+    })
+}
+
+fn ours(frames: &[[f32; 12]], energies: &[f32]) -> [f32; 12] {
+    weighted_medians(frames, energies, &mut vec![0.0; FRAMES], FRAMES)
+}
+
+pub fn print_row() {
+    let frames: Vec<[f32; 12]> = draws(SEED, 5).map(uniform).take(FRAMES).collect();
+    let energies: Vec<f32> =
+        patterns(SEED, 6).take(FRAMES).map(|pattern| (pattern >> 40) as f32 / 16_777_216.0).collect();
+    assert_eq!(ours(&frames, &energies), theirs(&frames, &energies));
+    header("us for twelve weighted medians", "oracle");
+    Pair::of_steps(1_000, &[(); CALLS], |()| ours(&frames, &energies)[0], |()| theirs(&frames, &energies)[0])
+        .print("5,166 frames");
+}
