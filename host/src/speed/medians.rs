@@ -1,4 +1,4 @@
-//! The twelve weighted medians of a track's frames beside the oracle's way: seconds for one call.
+//! The twelve weighted medians of a track's frames beside the oracle's way: microseconds for one call.
 use super::SEED;
 use super::chromas::{draws, uniform};
 use super::key_lime::expose::compute_onset_weights;
@@ -10,8 +10,8 @@ use ulyptesh::probe::weighted_medians;
 /// The frames of four minutes.
 const FRAMES: usize = 5_166;
 
-/// Calls of a round, beside which one is short.
-const CALLS: usize = 100;
+/// Nanoseconds of a microsecond.
+const MICRO: usize = 1_000;
 
 /// What `analyze` does between the frames and the tuning.
 fn theirs(frames: &[[f32; 12]], energies: &[f32]) -> [f32; 12] {
@@ -33,6 +33,6 @@ pub fn print_row() {
         patterns(SEED, 6).take(FRAMES).map(|pattern| (pattern >> 40) as f32 / 16_777_216.0).collect();
     assert_eq!(ours(&frames, &energies), theirs(&frames, &energies));
     header("us for twelve weighted medians", "oracle");
-    Pair::of_steps(1_000, &[(); CALLS], |()| ours(&frames, &energies)[0], |()| theirs(&frames, &energies)[0])
+    Pair::of_steps(MICRO, &[()], |()| ours(&frames, &energies)[0], |()| theirs(&frames, &energies)[0])
         .print("5,166 frames");
 }
