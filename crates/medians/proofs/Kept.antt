@@ -1,14 +1,14 @@
 -- Values kept between two bounds: each count among them is that of all values without those below the lower bound, so the key at a rank stays.
 use mathlib.Core.Path.{_≡_, refl, sym, ap, _∙_, subst}
 use mathlib.Core.Logic.{inl, inr}
-use mathlib.Core.Bool.{Bool, true, false, not, _&&_, cond}
+use mathlib.Core.Bool.{Bool, true, false, not, cond}
 use mathlib.Core.List.{List, [], _∷_, _++_}
 use Prim.Native.Nat.{ℕ, suc, _+_, _-_, _≤_, _<_}
 use native.Mathlib.Omega.{arith}
-use lib.Dec.{T, ltb}
+use lib.Dec.{T}
 use lib.ListN.{length, getD, take, drop}
 use lib.Seq.{length-take-le, drop-drop}
-use lib.Ieee.{Float, nan, binary32, lt}
+use lib.Ieee.{Float, nan, binary32}
 use borrow.Author.Tests.{lt-ltb, le-ltb}
 use Rattle.laws.specs.Order.{orderKey}
 use Rattle.laws.proofs.Cases.{lt-or-ge, by-test}

@@ -1,5 +1,4 @@
 -- A part of the keys goes in a turn, and the one at the rank stays.
-use Prim.Native.Nat.{_≤_, _-_}
 use native.Mathlib.Omega.{arith}
 use Rattle.medians.specs.Search.{SoughtIn}
 use Rattle.medians.proofs.Halves.{upper-part, lower-part}
@@ -7,9 +6,6 @@ use Rattle.medians.proofs.Found.{search-ends}
 use borrow.Author.Needs.{needs}
 use Rattle.medians.proofs.bisect.Statement.{statement}
 use Rattle.medians.proofs.bisect.Tie as tie
-use Rattle.medians.proofs.bisect.Reads as reads
-use Rattle.medians.proofs.bisect.Lts as lts
-use Rattle.medians.proofs.count_below.Reads as count-below-reads
 
 abbrev Inv-loop : tie.InvT-loop
 Inv-loop work left rank key₀ width₀ key width = SoughtIn work left rank key width

@@ -10,11 +10,6 @@ use Rattle.medians.proofs.Kept.{narrowed-same, narrowed-more}
 use borrow.Author.Needs.{needs}
 use Rattle.medians.proofs.find_key.Statement.{statement}
 use Rattle.medians.proofs.find_key.Tie as tie
-use Rattle.medians.proofs.find_key.Reads as reads
-use Rattle.medians.proofs.find_key.Lts as lts
-use Rattle.medians.proofs.bisect.Reads as bisect-reads
-use Rattle.medians.proofs.narrowing.narrow.Reads as narrow-reads
-use Rattle.medians.proofs.narrowing.spread_at.Reads as spread-at-reads
 
 abbrev Inv-loop : tie.InvT-loop
 Inv-loop work₀ count rank sought₀ turn₀ work sought turn = (turn ≤ 8) × SoughtIn work (sought .left) (sought .rank) (sought .low) (sought .width) × Narrowed work₀ count rank work (sought .left) (sought .rank) × (length work ≡ length work₀)

@@ -4,9 +4,6 @@ use Rattle.chroma.specs.Onsets.{riseWeight}
 use borrow.Author.Needs.{needs}
 use Rattle.chroma.proofs.onsets.rise_weight.Statement.{statement}
 use Rattle.chroma.proofs.onsets.rise_weight.Tie as tie
-use Rattle.chroma.proofs.onsets.rise_weight.Reads as reads
-use Rattle.chroma.proofs.onsets.rise_weight.Lts as lts
-use Rattle.numbers.proofs.single.larger.Reads as larger-reads
 
 larger-requires : tie.Need-larger-requires
 larger-requires c κs = search needs

@@ -4,9 +4,6 @@ use lib.Ieee.{ofBits}
 use borrow.Author.Needs.{needs}
 use Rattle.chroma.proofs.onsets.weight_by_roots.Statement.{statement}
 use Rattle.chroma.proofs.onsets.weight_by_roots.Tie as tie
-use Rattle.chroma.proofs.onsets.weight_by_roots.Reads as reads
-use Rattle.chroma.proofs.onsets.weight_by_roots.Lts as lts
-use Rattle.chroma.proofs.onsets.rise_weight.Reads as rise-weight-reads
 
 returns : tie.Need-returns
 unfolding ofBits

@@ -12,10 +12,6 @@ use Rattle.chroma.proofs.Weights.{carried}
 use borrow.Author.Needs.{needs}
 use Rattle.chroma.proofs.onsets.write_weights.Statement.{statement}
 use Rattle.chroma.proofs.onsets.write_weights.Tie as tie
-use Rattle.chroma.proofs.onsets.write_weights.Reads as reads
-use Rattle.chroma.proofs.onsets.write_weights.Lts as lts
-use Rattle.chroma.proofs.onsets.weight_by_roots.Reads as weight-by-roots-reads
-use Rattle.roots.proofs.square_root.Reads as square-root-reads
 
 abbrev Inv-loop : tie.InvT-loop
 Inv-loop energies count weights₀ low₀ j₀ weights low j = (j ≤ count) × Filled (weightAt energies) weights₀ weights j × (0 < j → low ≡ rootOf (getD energies (j - 1) nan))

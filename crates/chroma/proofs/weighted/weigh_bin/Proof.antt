@@ -6,9 +6,6 @@ use Rattle.chroma.specs.Weighted.{weightedAt}
 use borrow.Author.Needs.{needs}
 use Rattle.chroma.proofs.weighted.weigh_bin.Statement.{statement}
 use Rattle.chroma.proofs.weighted.weigh_bin.Tie as tie
-use Rattle.chroma.proofs.weighted.weigh_bin.Reads as reads
-use Rattle.chroma.proofs.weighted.weigh_bin.Lts as lts
-use Rattle.chroma.proofs.weighted.weight_from.Reads as weight-from-reads
 
 abbrev Inv-loop : tie.InvT-loop
 Inv-loop frames energies weights bin count work₀ j₀ work j = (j ≤ count) × Filled (weightedAt frames energies bin) work₀ work j

@@ -3,9 +3,6 @@ use Rattle.chroma.proofs.Weights.{read-at}
 use borrow.Author.Needs.{needs}
 use Rattle.chroma.proofs.weighted.weight_from.Statement.{statement}
 use Rattle.chroma.proofs.weighted.weight_from.Tie as tie
-use Rattle.chroma.proofs.weighted.weight_from.Reads as reads
-use Rattle.chroma.proofs.weighted.weight_from.Lts as lts
-use Rattle.chroma.proofs.onsets.weight_at.Reads as weight-at-reads
 
 mul-result : tie.Need-mul-result
 mul-result c = search needs

@@ -5,11 +5,6 @@ use Rattle.chroma.proofs.Weights.{kept-long, kept-back}
 use borrow.Author.Needs.{needs}
 use Rattle.chroma.proofs.weighted.weighted_medians.Statement.{statement}
 use Rattle.chroma.proofs.weighted.weighted_medians.Tie as tie
-use Rattle.chroma.proofs.weighted.weighted_medians.Reads as reads
-use Rattle.chroma.proofs.weighted.weighted_medians.Lts as lts
-use Rattle.chroma.proofs.onsets.write_weights.Reads as write-weights-reads
-use Rattle.chroma.proofs.weighted.medians_by_weights.Reads as medians-by-weights-reads
-use Rattle.chroma.proofs.weighted.weights_kept.Reads as weights-kept-reads
 
 weights-kept-requires : tie.Need-weights-kept-requires
 weights-kept-requires c κs = search needs

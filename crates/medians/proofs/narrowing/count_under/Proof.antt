@@ -8,8 +8,6 @@ use Rattle.medians.specs.Narrow.{underTurn, countUnder}
 use borrow.Author.Needs.{needs}
 use Rattle.medians.proofs.narrowing.count_under.Statement.{statement}
 use Rattle.medians.proofs.narrowing.count_under.Tie as tie
-use Rattle.medians.proofs.narrowing.count_under.Reads as reads
-use Rattle.medians.proofs.narrowing.count_under.Lts as lts
 
 abbrev Inv-loop : tie.InvT-loop
 Inv-loop work count bound counted₀ i₀ counted i = (i ≤ count) × (counted ≤ i) × (turns (underTurn work bound) (count - i) i counted ≡ countUnder work count bound)

@@ -5,9 +5,6 @@ use Rattle.medians.proofs.Under.{count-under-is}
 use borrow.Author.Needs.{needs}
 use Rattle.medians.proofs.narrowing.counted.Statement.{statement}
 use Rattle.medians.proofs.narrowing.counted.Tie as tie
-use Rattle.medians.proofs.narrowing.counted.Reads as reads
-use Rattle.medians.proofs.narrowing.counted.Lts as lts
-use Rattle.medians.proofs.narrowing.count_under.Reads as count-under-reads
 
 count-under-requires : tie.Need-count-under-requires
 count-under-requires c κs = search needs

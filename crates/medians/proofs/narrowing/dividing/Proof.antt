@@ -2,11 +2,8 @@
 use mathlib.Core.Path.{subst, sym}
 use lib.Dec.{T}
 use lib.Ieee.{ofBits}
-use borrow.Author.Needs.{needs}
 use Rattle.medians.proofs.narrowing.dividing.Statement.{statement}
 use Rattle.medians.proofs.narrowing.dividing.Tie as tie
-use Rattle.medians.proofs.narrowing.dividing.Reads as reads
-use Rattle.medians.proofs.narrowing.dividing.Lts as lts
 
 returns : tie.Need-returns
 unfolding ofBits

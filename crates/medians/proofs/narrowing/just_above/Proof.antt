@@ -6,12 +6,6 @@ use Rattle.medians.specs.Narrow.{divides}
 use borrow.Author.Needs.{needs}
 use Rattle.medians.proofs.narrowing.just_above.Statement.{statement}
 use Rattle.medians.proofs.narrowing.just_above.Tie as tie
-use Rattle.medians.proofs.narrowing.just_above.Reads as reads
-use Rattle.medians.proofs.narrowing.just_above.Lts as lts
-use Rattle.medians.proofs.narrowing.dividing.Reads as dividing-reads
-use Rattle.medians.proofs.value_of_key.Reads as value-of-key-reads
-use Rattle.numbers.proofs.single.from_pattern.Reads as from-pattern-reads
-use Rattle.numbers.proofs.single.order_key.Reads as order-key-reads
 
 order-key-requires : tie.Need-order-key-requires
 order-key-requires c κs = search needs

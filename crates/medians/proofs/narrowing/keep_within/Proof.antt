@@ -1,14 +1,11 @@
 -- A value a turn: it is written behind those kept, and stays where it passes the test.
 use Prim.Native.Nat.{_≤_, _-_}
-use mathlib.Core.Path.{_≡_}
 use native.Mathlib.Omega.{arith}
 use Rattle.medians.specs.Narrow.{within}
 use Rattle.medians.proofs.Moved.{Moved, moved-start, moved-kept, moved-passed, moved-end}
 use borrow.Author.Needs.{needs}
 use Rattle.medians.proofs.narrowing.keep_within.Statement.{statement}
 use Rattle.medians.proofs.narrowing.keep_within.Tie as tie
-use Rattle.medians.proofs.narrowing.keep_within.Reads as reads
-use Rattle.medians.proofs.narrowing.keep_within.Lts as lts
 
 abbrev Inv-loop : tie.InvT-loop
 Inv-loop work₀ count low high kept₀ i₀ work kept i = (i ≤ count) × Moved (within low high) work₀ work i kept

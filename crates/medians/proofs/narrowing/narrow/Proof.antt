@@ -1,16 +1,9 @@
 -- Nothing goes, or what lies outside two bounds with the rank between their counts.
-use mathlib.Core.Path.{_∙_}
 use native.Mathlib.Omega.{arith}
 use Rattle.medians.proofs.Kept.{counted-apart, sought-among, narrowed-among}
 use borrow.Author.Needs.{needs}
 use Rattle.medians.proofs.narrowing.narrow.Statement.{statement}
 use Rattle.medians.proofs.narrowing.narrow.Tie as tie
-use Rattle.medians.proofs.narrowing.narrow.Reads as reads
-use Rattle.medians.proofs.narrowing.narrow.Lts as lts
-use Rattle.medians.proofs.narrowing.keep_within.Reads as keep-within-reads
-use Rattle.medians.proofs.narrowing.pivots_around.Reads as pivots-around-reads
-use Rattle.medians.proofs.narrowing.stretch_around.Reads as stretch-around-reads
-use Rattle.numbers.proofs.single.order_key.Reads as order-key-reads
 
 returns : tie.Need-returns
 returns c = search needs

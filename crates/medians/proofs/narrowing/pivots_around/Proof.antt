@@ -6,9 +6,6 @@ use native.Mathlib.Omega.{arith}
 use borrow.Author.Needs.{needs}
 use Rattle.medians.proofs.narrowing.pivots_around.Statement.{statement}
 use Rattle.medians.proofs.narrowing.pivots_around.Tie as tie
-use Rattle.medians.proofs.narrowing.pivots_around.Reads as reads
-use Rattle.medians.proofs.narrowing.pivots_around.Lts as lts
-use Rattle.medians.proofs.narrowing.pivots_in.Reads as pivots-in-reads
 
 sample-place : (k step left : ℕ) → k < 32 → step ≡ left / 32 → 32 ≤ left → k * step < left
 sample-place k step left h e some = let near : k * step ≤ 31 * step = mul-le-mul-right step (omega arith) in omega arith

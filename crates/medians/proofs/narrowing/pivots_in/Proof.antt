@@ -7,12 +7,6 @@ use Rattle.medians.specs.Narrow.{divides}
 use borrow.Author.Needs.{needs}
 use Rattle.medians.proofs.narrowing.pivots_in.Statement.{statement}
 use Rattle.medians.proofs.narrowing.pivots_in.Tie as tie
-use Rattle.medians.proofs.narrowing.pivots_in.Reads as reads
-use Rattle.medians.proofs.narrowing.pivots_in.Lts as lts
-use Rattle.medians.proofs.narrowing.count_under.Reads as count-under-reads
-use Rattle.medians.proofs.narrowing.dividing.Reads as dividing-reads
-use Rattle.medians.proofs.narrowing.just_above.Reads as just-above-reads
-use Rattle.numbers.proofs.single.from_pattern.Reads as from-pattern-reads
 
 abbrev Inv-loop : tie.InvT-loop
 Inv-loop sample place spread first last low₀ high₀ k₀ low high k = k ≤ 32

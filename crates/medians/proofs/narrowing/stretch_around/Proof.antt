@@ -1,16 +1,11 @@
 -- Each pair of bounds is counted.
 use mathlib.Core.Path.{sym, subst}
-use native.Mathlib.Omega.{arith}
 use lib.Dec.{T}
 use lib.Ieee.{Float, lt, ofBits}
 use Rattle.medians.specs.Narrow.{divides}
 use borrow.Author.Needs.{needs}
 use Rattle.medians.proofs.narrowing.stretch_around.Statement.{statement}
 use Rattle.medians.proofs.narrowing.stretch_around.Tie as tie
-use Rattle.medians.proofs.narrowing.stretch_around.Reads as reads
-use Rattle.medians.proofs.narrowing.stretch_around.Lts as lts
-use Rattle.medians.proofs.narrowing.counted.Reads as counted-reads
-use Rattle.numbers.proofs.single.from_pattern.Reads as from-pattern-reads
 
 counted-requires : tie.Need-counted-requires
 counted-requires c κs = search needs
