@@ -1,7 +1,7 @@
 -- A row at eight positions: where all eight lie, and what the resonators side by side leave of each.
 use mathlib.Core.Path.{_≡_, refl, ap}
 use mathlib.Core.List.{List, [], _∷_}
-use Prim.Native.Nat.{ℕ, _+_, _*_}
+use Prim.Native.Nat.{ℕ, _+_, _*_, _<_, _≤_}
 use native.Mathlib.Omega.{arith}
 use lib.Ieee.{Float}
 use Rattle.laws.specs.Front.{list}
@@ -12,30 +12,21 @@ use Rattle.constant_q.specs.declared.lanes.Powers.{Powers}
 use Rattle.blocks.specs.Eight.{laterBy, fourApart, EightLie, eightDelays, powersLeft, eightPowers}
 use Rattle.blocks.specs.declared.eight.Eight.{Eight}
 
+four-lie : {samples windows : ℕ} (hop : ℕ) (lane : Lane) → lane .start + 3 * hop + lane .count ≤ samples → lane .first + lane .count ≤ windows → lane .count < 0x1_0000_0000 → FourLie samples windows (fourApart hop lane)
+four-lie hop lane last within short =
+    record {
+      a = record { onTrack = omega arith; inWindows = within; short = short };
+      b = record { onTrack = omega arith; inWindows = within; short = short };
+      c = record { onTrack = omega arith; inWindows = within; short = short };
+      d = record { onTrack = omega arith; inWindows = within; short = short };
+    }
+
 module _ {samples windows hop : ℕ} {lane : Lane} (lie : EightLie samples windows hop lane) where
   pub early-lie : FourLie samples windows (fourApart hop lane)
-  early-lie =
-      let all = lie .onTrack in
-      let within = lie .inWindows in
-      let short = lie .short in
-      record {
-        a = record { onTrack = omega arith; inWindows = within; short = short };
-        b = record { onTrack = omega arith; inWindows = within; short = short };
-        c = record { onTrack = omega arith; inWindows = within; short = short };
-        d = record { onTrack = omega arith; inWindows = within; short = short };
-      }
+  early-lie = four-lie hop lane (omega (arith, lie .onTrack)) (lie .inWindows) (lie .short)
 
   pub late-lie : FourLie samples windows (fourApart hop (laterBy (4 * hop) lane))
-  late-lie =
-      let all = lie .onTrack in
-      let within = lie .inWindows in
-      let short = lie .short in
-      record {
-        a = record { onTrack = omega arith; inWindows = within; short = short };
-        b = record { onTrack = omega arith; inWindows = within; short = short };
-        c = record { onTrack = omega arith; inWindows = within; short = short };
-        d = record { onTrack = omega arith; inWindows = within; short = short };
-      }
+  late-lie = four-lie hop (laterBy (4 * hop) lane) (omega (arith, lie .onTrack)) (lie .inWindows) (lie .short)
 
 module _ (samples windows : List Float) (hop : ℕ) (lane : Lane) where
   -- the power of the row that starts at a sample
