@@ -7,6 +7,7 @@ use super::segments::segments_of;
 use super::tracks::chords;
 use ulyptesh::analysis::{Buffers, analyse};
 use ulyptesh::frames::FrameRows;
+use ulyptesh::probe::weighted_medians;
 use ulyptesh::segments::Track;
 use ulyptesh::sheet::{Settings, Sheet};
 
@@ -14,7 +15,7 @@ const RATES: [u32; 2] = [44_100, 48_000];
 const SECONDS: usize = 240;
 
 /// Rounds of a stage, which is ours alone.
-const ROUNDS: usize = 3;
+const ROUNDS: usize = 7;
 
 /// Stream of the seed.
 const STREAM: u64 = 5;
@@ -32,35 +33,19 @@ pub fn analyse_once() {
     analysis_of(Settings::for_rate(RATES[0]), &chords(STREAM, RATES[0], 30));
 }
 
-/// As many frames and windows, but small frames of one note: what follows the frames takes as long, and is not lost
-/// beside them.
-fn with_small_frames(settings: Settings) -> Settings {
-    Settings { frame_size: 32, minimum_midi_note: 69, maximum_midi_note: 69, ..settings }
+fn print_stage<A>(name: &str, work: impl Fn() -> A) {
+    println!("{name:30} {:10.2}", median_of(ROUNDS, || seconds(&work)) * 1e3);
 }
 
-fn time_of<A>(work: impl Fn() -> A) -> f64 {
-    median_of(ROUNDS, || seconds(&work))
-}
-
-/// What follows the frames: medians and verdict by difference, and segments.
-fn after_frames(settings: Settings, track: &[f32]) -> (f64, f64) {
-    let small = with_small_frames(settings);
-    let FrameRows { centres, values, .. } = frames_of(small, track);
-    let heard = Track { settings: small, samples: track.len(), key: 0, confidence: 0.5, centres, values };
-    let for_segments = time_of(|| segments_of(&heard));
-    let for_frames = time_of(|| frames_of(small, track));
-    let for_all = time_of(|| analysis_of(small, track));
-    (for_all - for_frames - for_segments, for_segments)
-}
-
+/// Each stage alone, on what the one before it leaves.
 fn print_stages(settings: Settings, track: &[f32]) {
-    let for_frames = time_of(|| frames_of(settings, track));
-    let (for_medians, for_segments) = after_frames(settings, track);
-    println!("{:30} {:>10}", "ms for the stages of the same", "ours");
-    let stages = [("frames", for_frames), ("medians and verdict", for_medians), ("segments", for_segments)];
-    for (name, time) in stages {
-        println!("{:30} {:10.2}", format!("{name}, {} Hz", settings.rate), time * 1e3);
-    }
+    println!("{:30} {:>10}", "ms for the stages, 44100 Hz", "ours");
+    print_stage("frames", || frames_of(settings, track));
+    let FrameRows { centres, values, energies } = frames_of(settings, track);
+    let count = values.len();
+    print_stage("medians", || weighted_medians(&values, &energies, &mut vec![0.0; count], count));
+    let heard = Track { settings, samples: track.len(), key: 0, confidence: 0.5, centres, values };
+    print_stage("segments", || segments_of(&heard));
 }
 
 /// What a caller lends for a minute.
