@@ -2,7 +2,7 @@
 
    The library allocates nothing, keeps no pointer and has no state. A slice is a pointer and a count of entries. A
    slice that is written to overlaps no other. "From the front" means: entry 0 first, and all entries behind those that
-   are written stay as they were.
+   are written stay as they were. An analysis takes up to 96 KiB of the caller's stack.
 
    An answer of more than 16 bytes is written behind the call's first pointer, which the call also returns.
 

@@ -1,4 +1,5 @@
 //! No call asks for memory: what is asked of the C library is counted, whichever language asks, while a call runs.
+//! And an analysis takes no more of the stack than the header says.
 use super::analyses::{self, MOST_SEGMENTS, Told, all_writable};
 use super::analysis_calls::Asked;
 use super::analysis_sides;
@@ -13,6 +14,7 @@ use std::cell::Cell;
 use std::ffi::{c_int, c_void};
 use std::hint::black_box;
 use std::sync::Arc;
+use std::thread;
 use ulyptesh::analysis::analyse;
 use ulyptesh::frames::frames;
 use ulyptesh::sheet::{Settings, Sheet};
@@ -24,6 +26,9 @@ const STREAM: u64 = 96_000;
 /// So many chromas of each kind, and so many analyses for each broken rule of a card.
 const OF_EACH_KIND: usize = 100;
 const BROKEN: usize = 20;
+
+/// What the header says that an analysis may take of the stack.
+const STACK: usize = 96 << 10;
 
 thread_local! {
     static REQUESTS: Cell<u64> = const { Cell::new(0) };
@@ -110,6 +115,19 @@ fn by_analyse(asked: Asked) -> u64 {
     requests(|| analyse(call.settings, &call.sheet, &call.samples, &mut lent))
 }
 
+fn key_told(asked: &Asked) -> u32 {
+    let (call, mut lent) = (&asked.call, analysis_sides::untouched(asked));
+    analyse(call.settings, &call.sheet, &call.samples, &mut lent).key.into()
+}
+
+/// An overflow ends the program.
+fn key_on_small_stack(asked: Asked) -> u32 {
+    thread::scope(|scope| {
+        let thread = thread::Builder::new().stack_size(STACK).spawn_scoped(scope, || key_told(&asked));
+        thread.expect("room for a thread").join().expect("an answer")
+    })
+}
+
 fn by_frames(asked: Asked) -> u64 {
     let (call, mut rows) = (&asked.call, frames::untouched(asked.call.room));
     requests(|| frames(call.settings, &call.sheet, &call.samples, &mut rows))
@@ -161,6 +179,7 @@ pub fn compare(groups: &mut Groups) {
         |nth| ASKING[nth].1,
     );
     groups.group("memory asked for by analyses", calls(), by_analyse, |_| 0);
+    groups.group("analyses on a small stack", calls(), key_on_small_stack, |asked| key_told(&asked));
     groups.group("memory asked for by frames", calls(), by_frames, |_| 0);
     groups.group("memory asked for by scores and key", chromas(seed), by_scores, |_| 0);
     groups.group("memory asked for by key names", names(), by_key_name, |_| 0);
