@@ -6,9 +6,10 @@ use ulyptesh::probe::{median, probe_narrow, probe_square_root};
 
 const VALUES: usize = 1 << 14;
 
-/// Medians are of so many values, of so many sets in turn.
-const COUNT: usize = 10_000;
-const SETS: usize = 4;
+/// Values of which the medians are taken, in sets of so many.
+const DRAWN: usize = 40_000;
+const MANY: usize = 10_000;
+const FEW: usize = 100;
 
 fn fixed_patterns() -> impl Iterator<Item = u64> {
     patterns(SEED, 0).take(VALUES)
@@ -36,18 +37,26 @@ pub fn print_rows() {
     row("square_root, mixed patterns", fixed_patterns().map(single), |x| probe_square_root(x), f32::sqrt);
     row("narrow, ordinary values", ordinary(), |x| probe_narrow(x), |x| x as f32);
     row("narrow, mixed patterns", fixed_patterns().map(f64::from_bits), |x| probe_narrow(x), |x| x as f32);
-    print_median();
+    print_medians();
 }
 
 /// Both sides work on a copy, whose making counts.
-fn print_median() {
-    let values: Vec<f32> =
-        patterns(SEED, 1).take(SETS * COUNT).map(|pattern| ordinary_value(pattern) as f32).collect();
-    header("ns for one median", "Rust");
+fn print_median(name: &str, values: &[f32], count: usize) {
     row(
-        "median, 10,000 ordinary values",
-        values.chunks_exact(COUNT),
-        |set| median(&mut set.to_vec(), COUNT),
-        |set| *set.to_vec().select_nth_unstable_by(COUNT / 2, f32::total_cmp).1,
+        name,
+        values.chunks_exact(count),
+        |set| median(&mut set.to_vec(), count),
+        |set| *set.to_vec().select_nth_unstable_by(count / 2, f32::total_cmp).1,
     );
+}
+
+/// Of ordinary values, many and few, and of such with half of them a zero.
+fn print_medians() {
+    let drawn = |value: fn(u64) -> f32| patterns(SEED, 1).take(DRAWN).map(value).collect::<Vec<f32>>();
+    let values = drawn(|pattern| ordinary_value(pattern) as f32);
+    let zeroed = drawn(|pattern| if pattern % 2 == 0 { 0.0 } else { ordinary_value(pattern) as f32 });
+    header("ns for one median", "Rust");
+    print_median("median, 10,000 ordinary values", &values, MANY);
+    print_median("median, 10,000, half of them 0", &zeroed, MANY);
+    print_median("median, 100 ordinary values", &values, FEW);
 }
