@@ -33,8 +33,7 @@ fn add_twelve(sums: &[f32; 12], more: &[f32; 12]) -> [f32; 12]
     added
 }
 
-// The correlations with the four profiles of a mode together, by root; the mode is 0 for major and 1
-// for minor.
+// The correlations with the four profiles of a mode together, by root; 0 is major and 1 is minor.
 fn sum_mode(away: &[f32; 12], chroma: f32, mode: usize) -> [f32; 12]
     requires { ⌜ mode < 2 ⌝ }
     ensures { λ r. ⌜ r ≡ modeSums (now (away .entry)) chroma mode ⌝ }

@@ -1,5 +1,4 @@
--- Which frames a window need look at: later starts are above earlier ones, so frames before a start are left behind for good, and where the centres
--- rise nothing counts behind the first frame that is not below the window's end. Definitions only.
+-- Which frames a window need look at: none before its start, and where the centres rise none from its end on. Definitions only.
 use Prim.Native.Nat.{ℕ, _-_, _<_, _≤_}
 use mathlib.Core.Path.{_≡_}
 use mathlib.Core.Bool.{Bool, false, not, cond}
