@@ -1,4 +1,5 @@
-//! Links the two static libraries that `rt staticlib` wrote, and the oracle where it was built.
+//! Links the static libraries that `rt staticlib` wrote: the product's, and with the feature `probe` the leaves' and
+//! the oracle where it was built.
 use std::env;
 use std::path::Path;
 
@@ -8,9 +9,14 @@ const ASKED_FOR_MEMORY: [&str; 4] = ["malloc", "calloc", "realloc", "posix_memal
 fn main() {
     let host = env::var_os("CARGO_MANIFEST_DIR").expect("cargo names the package's folder");
     let built = Path::new(&host).join("../target");
-    link_library(&built.join("staticlib"), "ulyptesh");
-    link_library(&built.join("staticlib"), "probe");
-    link_oracle(&built.join("oracle"));
+    let libraries = built.join("staticlib");
+    println!("cargo::rustc-check-cfg=cfg(oracle)");
+    link_library(&libraries, "ulyptesh");
+    if env::var_os("CARGO_FEATURE_PROBE").is_some() {
+        link_library(&libraries, "probe");
+        link_library(&libraries, "probe_segments");
+        link_oracle(&built.join("oracle"));
+    }
 }
 
 fn link_library(folder: &Path, name: &str) {
@@ -23,7 +29,6 @@ fn link_library(folder: &Path, name: &str) {
 // `cfg(oracle)` holds exactly where `extern crate key_lime` finds the oracle.
 fn link_oracle(folder: &Path) {
     let oracle = folder.join("libkey_lime.rlib");
-    println!("cargo::rustc-check-cfg=cfg(oracle)");
     println!("cargo::rerun-if-changed={}", oracle.display());
     if oracle.exists() {
         println!("cargo::rustc-cfg=oracle");

@@ -13,6 +13,7 @@ pub mod found;
 pub mod frames;
 pub mod key_name;
 pub mod keys;
+#[cfg(feature = "probe")]
 pub mod probe;
 pub mod refusal;
 pub mod scores;

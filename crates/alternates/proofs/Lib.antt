@@ -2,6 +2,5 @@
 mod Rows
 mod Branches
 mod Sums
-pub mod Reported
 pub mod Tiled
 pub mod Named

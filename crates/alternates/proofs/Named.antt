@@ -25,7 +25,8 @@ use Rattle.alternates.specs.Alternate.{instant, heard, lasting, totalOf,
 use Rattle.alternates.specs.Named.{Reaches, Rightly, NamedExactly}
 use Rattle.alternates.specs.declared.alternate.Alternate.{Alternate}
 use Rattle.alternates.specs.declared.alternate.Alternate.the-variants.{Nobody, Named}
-use Rattle.alternates.proofs.Sums.{InFormat, order-ranks, total-is, part-of, seconds-amount}
+use Rattle.longest.proofs.Lengths.{InFormat, order-ranks}
+use Rattle.alternates.proofs.Sums.{total-is, part-of, seconds-amount}
 
 -- ---- more seconds, more coverage
 lacks-mono : (threshold all d e : Float) → T (positive all) → T (clear d) → T (clear e) → T (le d e) → T (lacks threshold (coverageOf all e)) → T (lacks threshold (coverageOf all d))

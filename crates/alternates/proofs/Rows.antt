@@ -1,30 +1,21 @@
 -- The segments in lent rows, read one by one: entry i of the list is row i, and a loop over the rows is one over the list.
 use mathlib.Core.Path.{_≡_, sym, ap, _∙_}
 use mathlib.Core.Bool.{Bool, not, _&&_}
-use Prim.Native.Nat.{ℕ, _+_, _-_, _<_}
+use Prim.Native.Nat.{ℕ, _+_, _<_}
 use native.Mathlib.Nat.{zero-add}
 use native.Mathlib.Omega.{arith}
-use lib.ListN.{length}
 use lib.Dec.{eqb}
-use Rattle.laws.specs.Turns.{turns}
 use Rattle.laws.specs.First.{first}
 use Rattle.laws.specs.Leader.{isOf}
 use Rattle.laws.proofs.First.{first-same}
-use Rattle.laws.proofs.Turns.{turns-start}
-use Rattle.laws.proofs.Front.{length-list}
 use Rattle.keys.specs.Numbers.{keyNumber}
 use Rattle.timeline.specs.Segments.{SegmentRows, segmentAt, segmentIn, segmentsIn}
 use Rattle.timeline.specs.declared.segment.Segment.{Segment}
 use Rattle.timeline.proofs.Segments.{segment-there}
+use Rattle.longest.proofs.Rows.{read-at}
 use Rattle.alternates.specs.Alternate.{lasting, numberAt, lastsIn, rivals}
 
 module _ (rows : SegmentRows) (count : ℕ) where
-  pub row-count : length (segmentsIn rows count) ≡ count
-  row-count = length-list (segmentIn rows) count
-
-  pub rows-start : {S : Type 0} (step : ℕ → S → S) (s : S) → turns step (count - 0) 0 s ≡ turns step (length (segmentsIn rows count)) 0 s
-  rows-start step s = turns-start step count s ∙ ap (λ (k : ℕ). turns step k 0 s) (sym row-count)
-
   -- where a key is first met among the first rows
   pub place-told : (reported key i : ℕ) → i < count → {place : ℕ} → place ≡ first (isOf (rivals reported (segmentsIn rows i)) (numberAt (segmentsIn rows i)) key) i 0 → place ≡ first (isOf (rivals reported (segmentsIn rows count)) (numberAt (segmentsIn rows count)) key) i 0
   unfolding rivals numberAt
@@ -37,17 +28,14 @@ module _ (rows : SegmentRows) (count : ℕ) where
 
   -- what was read from row i
   module _ (i : ℕ) (h : i < count) {s : Segment} (read : s ≡ segmentIn rows i) where
-    pub read-at : s ≡ segmentAt (segmentsIn rows count) i
-    read-at = read ∙ sym (segment-there rows count i h)
-
     pub number-told : {n : ℕ} → n ≡ keyNumber (s .key) → n ≡ numberAt (segmentsIn rows count) i
     unfolding numberAt
-    number-told e = e ∙ ap (λ (x : Segment). keyNumber (x .key)) read-at
+    number-told e = e ∙ ap (λ (x : Segment). keyNumber (x .key)) (read-at rows count i h read)
 
     pub lasts-told : (key : ℕ) {b : Bool} → b ≡ (lasting s && eqb (keyNumber (s .key)) key) → b ≡ lastsIn (segmentsIn rows count) key i
     unfolding lastsIn numberAt
-    lasts-told key e = e ∙ ap (λ (x : Segment). lasting x && eqb (keyNumber (x .key)) key) read-at
+    lasts-told key e = e ∙ ap (λ (x : Segment). lasting x && eqb (keyNumber (x .key)) key) (read-at rows count i h read)
 
     pub rival-told : (reported : ℕ) {b : Bool} → b ≡ (lasting s && not (eqb (keyNumber (s .key)) reported)) → b ≡ rivals reported (segmentsIn rows count) i
     unfolding rivals numberAt
-    rival-told reported e = e ∙ ap (λ (x : Segment). lasting x && not (eqb (keyNumber (x .key)) reported)) read-at
+    rival-told reported e = e ∙ ap (λ (x : Segment). lasting x && not (eqb (keyNumber (x .key)) reported)) (read-at rows count i h read)

@@ -6,34 +6,21 @@ use native.Mathlib.Numerals.{add-one}
 use native.Mathlib.Nat.{not-suc-le-zero}
 use lib.ListN.{length}
 use lib.Dec.{T}
-use lib.Ieee.{Float, binary64, add, le, fits}
-use lib.Ieee.Fits.{add-fits, sub-fits}
+use lib.Ieee.{Float, binary64, add, le}
+use lib.Ieee.Fits.{add-fits}
 use Rattle.laws.specs.Turns.{turns}
-use Rattle.laws.specs.Order.{totalOrder}
 use Rattle.laws.specs.Values.{plusZero, minusZero, clear}
 use Rattle.laws.proofs.Cases.{by-test}
 use Rattle.laws.proofs.Turns.{turns-last, turns-keep}
-use Rattle.laws.proofs.Leader.{Ranks}
 use Rattle.laws.proofs.Every.{and-last}
 use Rattle.laws.proofs.Order.{le-trans}
 use Rattle.laws.proofs.Nonneg.{add-clear}
 use Rattle.laws.proofs.Pick.{max-zero-clear, max-fits}
-use Rattle.laws.proofs.Total.{total-order}
 use Rattle.laws.proofs.Zero.{plusZero-held, minusZero-add, add-right, add-left}
 use Rattle.timeline.specs.Segments.{seconds, segmentAt}
 use Rattle.timeline.specs.declared.segment.Segment.{Segment}
+use Rattle.longest.proofs.Lengths.{InFormat, seconds-fits}
 use Rattle.alternates.specs.Alternate.{heard, totalTurn, totalOf, lastsIn, secondsTurn, secondsOf}
-
--- ---- the total order of what binary64 holds, as lengths and their sums are
-abbrev pub InFormat : Float → Type 0
-InFormat x = T (fits binary64 x)
-
-pub order-ranks : Ranks totalOrder InFormat
-order-ranks = record { total = total-order binary64 .total; transitive = total-order binary64 .transitive }
-
-pub seconds-fits : (s : Segment) → InFormat (seconds s)
-unfolding seconds
-seconds-fits s = sub-fits binary64 (s .end) (s .start)
 
 -- a value that binary64 holds, with the sign plus and no NaN
 pub record Amount (x : Float) : Type 0 where

@@ -1,3 +1,2 @@
-pub mod Longest
 pub mod Alternate
 pub mod Named

@@ -1,3 +1,2 @@
-// The reported key of several segments, and the alternate key beside it.
+// The alternate key beside the reported one.
 pub mod alternate;
-pub mod longest;

@@ -17,14 +17,14 @@ use Rattle.calls.specs.declared.Settings.{Settings}
 use Rattle.checks.specs.declared.Checked.{Checked}
 use Rattle.checks.specs.declared.Checked.the-variants.{Refused, Empty, Go}
 use Rattle.checks.proofs.Passed.{Passed, passed}
-use Rattle.chroma.specs.Weighted.{weightedMedians}
+use Rattle.onsets.specs.Weighted.{weightedMedians}
 use Rattle.frames.specs.Run.{runOf}
 use Rattle.frames.specs.declared.run.Filled.{Filled}
 use Rattle.frames.specs.declared.run.Filled.the-variants.{All, NotFinite}
 use Rattle.timeline.specs.Segments.{segmentAt, segmentsIn}
 use Rattle.timeline.specs.declared.segment.Segment.{Segment}
 use Rattle.windows.specs.Span.{spanOf, longestTrack}
-use Rattle.windows.specs.Gather.{Heard}
+use Rattle.gathering.specs.Gather.{Heard}
 use Rattle.windows.specs.declared.span.Span.{Span}
 use Rattle.windows.proofs.Spans.{duration-under}
 use Rattle.segments.specs.Track.{Outcome as Tracked, locatedOf}
@@ -32,7 +32,7 @@ use Rattle.segments.specs.Demand.{LaidOut}
 use Rattle.segments.specs.declared.track.Located.{Located}
 use Rattle.segments.specs.declared.track.Located.the-variants.{Told, Halted}
 use Rattle.segments.proofs.LaidOut.{located-laid-out}
-use Rattle.alternates.specs.Longest.{reportedOf}
+use Rattle.longest.specs.Longest.{reportedOf}
 use Rattle.alternates.specs.Alternate.{lasting, numberAt, lastsIn, alternateOf, alternateNumber, alternateCoverage}
 use Rattle.alternates.specs.Named.{Reaches, Rightly, Exactly}
 use Rattle.alternates.specs.declared.alternate.Alternate.{Alternate}
@@ -44,7 +44,9 @@ use Rattle.rooms.specs.Room.{hasty, roomOf}
 use Rattle.verdicts.specs.Verdict.{faint, verdictOf}
 use Rattle.verdicts.specs.Answer.{counts, keyless, withKey}
 use Rattle.reports.specs.Report.{trackOf, namedIn, toldBy, reportOf}
-use Rattle.analysis.specs.Analyse.{outcome, heardIn, reportedIn, framesAnalysed, filledAnalysed, positionsAnalysed, afterChecks, tableOf}
+use Rattle.loud_frames.specs.Loud.{outcome, heardIn, reportedIn, framesAnalysed}
+use Rattle.positions.specs.Positions.{filledAnalysed, positionsAnalysed}
+use Rattle.analysis.specs.Analyse.{afterChecks, tableOf}
 use Rattle.analysis.specs.Demand.{Alternating, DemandThree, Typed, AnalysisKeeps}
 use Rattle.verdicts.specs.declared.answer.Counts.{Counts}
 use Rattle.verdicts.specs.declared.verdict.Verdict.{Verdict}

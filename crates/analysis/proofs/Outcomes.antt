@@ -13,16 +13,18 @@ use Rattle.timeline.specs.Segments.{segmentRoom}
 use Rattle.rooms.specs.Lent.{Lent}
 use Rattle.rooms.specs.Room.{hasty, roomFor, roomOf}
 use Rattle.verdicts.specs.Answer.{keyless}
-use Rattle.analysis.specs.Analyse.{Outcome, outcome, positionsAnalysed, afterChecks, tableOf, analysed}
+use Rattle.loud_frames.specs.Loud.{Outcome, outcome}
+use Rattle.positions.specs.Positions.{positionsAnalysed}
+use Rattle.analysis.specs.Analyse.{afterChecks, tableOf, analysed}
 use Rattle.verdicts.specs.declared.answer.AnalyseResult.{AnalyseResult}
 
 module _ (c : Call) (l : Lent) where
   -- the room that the call finds in all that it is lent
-  pub room-is : {few frames estimates segments places : ℕ} → few ≡ roomIn (l .frames) → frames ≡ min few (length (l .work)) → estimates ≡ estimateRoom (l .estimates) → segments ≡ segmentRoom (l .segments)
-      → places ≡ roomFor (c .settings) (length (c .samples)) frames estimates segments → places ≡ roomOf (c .settings) (length (c .samples)) l
-  room-is {few} {frames} {estimates} {segments} rows both e s p =
+  pub room-is : {rows estimates segments places : ℕ} → rows ≡ roomIn (l .frames) → estimates ≡ estimateRoom (l .estimates) → segments ≡ segmentRoom (l .segments)
+      → places ≡ roomFor (c .settings) (length (c .samples)) (min rows (length (l .work))) estimates segments → places ≡ roomOf (c .settings) (length (c .samples)) l
+  room-is {rows} {estimates} {segments} r e s p =
       p
-      ∙ ap (λ (n : ℕ). roomFor (c .settings) (length (c .samples)) n estimates segments) (both ∙ ap (λ (n : ℕ). min n (length (l .work))) rows)
+      ∙ ap (λ (n : ℕ). roomFor (c .settings) (length (c .samples)) (min n (length (l .work))) estimates segments) r
       ∙ ap (λ (n : ℕ). roomFor (c .settings) (length (c .samples)) (min (roomIn (l .frames)) (length (l .work))) n segments) e
       ∙ ap (λ (n : ℕ). roomFor (c .settings) (length (c .samples)) (min (roomIn (l .frames)) (length (l .work))) (estimateRoom (l .estimates)) n) s
 

@@ -21,7 +21,8 @@ use Rattle.windows.proofs.Spans.{windows-asked, some-asked, span-timed}
 use Rattle.rooms.specs.Lent.{Lent}
 use Rattle.rooms.specs.Room.{hasty, roomFor, roomOf}
 use Rattle.analysis.specs.Demand.{Typed}
-use Rattle.analysis.specs.Analyse.{tableOf, Supplied}
+use Rattle.positions.specs.Positions.{Supplied}
+use Rattle.analysis.specs.Analyse.{tableOf}
 
 -- the span of a call that passed
 pub passed-timed : (c : Call) (hurried : Bool) (room positions : ℕ) → Typed (c .settings) → Passed c hurried room positions → Timed (spanOf (c .settings) (length (c .samples)))

@@ -13,7 +13,8 @@ use Rattle.timeline.specs.declared.segment.Segment.{Segment}
 use Rattle.windows.specs.Span.{spanOf}
 use Rattle.alternates.specs.Named.{Reaches, Rightly}
 use Rattle.rooms.specs.Lent.{Lent}
-use Rattle.analysis.specs.Analyse.{Outcome, analysed}
+use Rattle.loud_frames.specs.Loud.{Outcome}
+use Rattle.analysis.specs.Analyse.{analysed}
 use Rattle.verdicts.specs.declared.answer.AnalyseResult.{AnalyseResult}
 
 -- the samples over the rate, in seconds

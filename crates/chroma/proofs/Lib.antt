@@ -1,5 +1,3 @@
 -- What the functions' proofs share, on plain values.
 mod Classes
-mod Emptied
 mod Shifts
-mod Weights

@@ -1,5 +1,3 @@
 pub mod Levels
-pub mod Onsets
 pub mod Tuning
 pub mod Shift
-pub mod Weighted

@@ -11,9 +11,9 @@ use Rattle.laws.specs.First.{first}
 use Rattle.laws.proofs.First.{first-within}
 use Rattle.calls.specs.Call.{Call}
 use Rattle.calls.specs.Rows.{Rows}
-use Rattle.frames.specs.Frame.{loud}
+use Rattle.one_frame.specs.Frame.{loud}
 use Rattle.frames.specs.Run.{energyAt, frameRow, notFiniteAt, loudBefore, Run, ran, runOf}
-use Rattle.frames.specs.declared.frame.Row.{Row}
+use Rattle.one_frame.specs.declared.frame.Row.{Row}
 use Rattle.frames.specs.declared.run.Filled.{Filled}
 use Rattle.frames.specs.declared.run.Filled.the-variants.{All, NotFinite}
 

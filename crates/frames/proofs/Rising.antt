@@ -21,10 +21,10 @@ use Rattle.laws.proofs.Nonneg.{positive→nonneg, nonneg→ordered, div-mono}
 use Rattle.laws.proofs.Parts.{whole-is, parts-clear, parts-mono}
 use Rattle.calls.specs.Call.{Call}
 use Rattle.checks.proofs.Passed.{passed}
-use Rattle.frames.specs.Frame.{loud, middleOf, centreOf, rowOf}
+use Rattle.one_frame.specs.Frame.{loud, middleOf, centreOf, rowOf}
 use Rattle.frames.specs.Run.{energyAt, frameRow, notFiniteAt, loudBefore, Run, runOf}
 use Rattle.frames.specs.Rising.{LoudCentresRise}
-use Rattle.frames.specs.declared.frame.Row.{Row}
+use Rattle.one_frame.specs.declared.frame.Row.{Row}
 use Rattle.frames.specs.declared.run.Filled.the-variants.{All, NotFinite}
 
 module _ (c : Call) (rated : 0 < c .settings .rate) (slow : c .settings .rate ≤ 192_000) where

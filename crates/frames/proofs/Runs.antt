@@ -20,9 +20,9 @@ use Rattle.constant_q.specs.ConstantQ.{constantQAt}
 use Rattle.blocks.specs.Stock.{Centred, Tuned, Stock, Supplied}
 use Rattle.blocks.specs.declared.stock.Held.{Held}
 use Rattle.blocks.specs.declared.stock.Handed.{Handed}
-use Rattle.frames.specs.Frame.{loud, middleOf, chromaAt, rowFrom, rowOf, whole}
+use Rattle.one_frame.specs.Frame.{loud, middleOf, chromaAt, rowFrom, rowOf, whole}
 use Rattle.frames.specs.Run.{energyAt, frameRow, notFiniteAt, loudBefore, put, holding, ran, runTo, runOf, Ready}
-use Rattle.frames.specs.declared.frame.Row.{Row}
+use Rattle.one_frame.specs.declared.frame.Row.{Row}
 use Rattle.frames.specs.declared.run.Filled.{Filled}
 use Rattle.frames.specs.declared.run.Filled.the-variants.{All, NotFinite}
 

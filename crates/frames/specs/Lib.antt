@@ -1,4 +1,2 @@
-pub mod Blend
-pub mod Frame
 pub mod Run
 pub mod Rising

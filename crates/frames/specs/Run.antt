@@ -11,8 +11,8 @@ use Rattle.laws.specs.First.{first}
 use Rattle.calls.specs.Call.{Call, positionsOf}
 use Rattle.calls.specs.Rows.{Rows, rows}
 use Rattle.sheets.specs.Sheet.{Formed}
-use Rattle.frames.specs.Frame.{energyOf, loud, rowOf, whole}
-use Rattle.frames.specs.declared.frame.Row.{Row}
+use Rattle.one_frame.specs.Frame.{energyOf, loud, rowOf, whole}
+use Rattle.one_frame.specs.declared.frame.Row.{Row}
 use Rattle.frames.specs.declared.run.Filled.{Filled}
 use Rattle.frames.specs.declared.run.Filled.the-variants.{All, NotFinite}
 

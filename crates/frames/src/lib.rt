@@ -1,4 +1,2 @@
-// Frames: one frame's energy and chroma, and the run over all frame positions into lent rows.
-pub mod blend;
-pub mod frame;
+// The run over all frame positions: the loud frames into lent rows, up to one that is not finite.
 pub mod run;

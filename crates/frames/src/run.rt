@@ -5,15 +5,15 @@ ghost use lib.ListN.{length};
 ghost use Rattle.calls.specs.Call.{given};
 ghost use Rattle.calls.specs.Rows.{lentRows};
 ghost use Rattle.frames.specs.Run.{put, ran, runOf, Ready};
-use crate::frame::Row;
-use crate::frame::frame_energy;
-use crate::frame::frame_row;
-use crate::frame::is_loud;
-use crate::frame::is_whole;
 use blocks::stock::Held;
 use blocks::stock::supply;
 use calls::Settings;
 use calls::SheetHead;
+use one_frame::frame::Row;
+use one_frame::frame::frame_energy;
+use one_frame::frame::frame_row;
+use one_frame::frame::is_loud;
+use one_frame::frame::is_whole;
 
 // What the run says: all positions with so many rows written, or the position that is not finite with
 // so many rows before it.

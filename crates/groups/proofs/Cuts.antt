@@ -15,7 +15,8 @@ use Rattle.timeline.specs.Segments.{SegmentRows, Room, filled, standing, putSeg
 use Rattle.timeline.specs.declared.estimate.Estimate.{Estimate}
 use Rattle.timeline.specs.declared.segment.Segment.{Segment}
 use Rattle.timeline.proofs.Segments.{Holds, holds-start, holds-more, holds-all}
-use Rattle.groups.specs.Groups.{between, splits, grouped, groupOf, borderOf, estimateAt, Cutting, cutting, cutTurn, closed, groupsOf}
+use Rattle.splits.specs.Splits.{splits, borderOf}
+use Rattle.groups.specs.Groups.{between, grouped, groupOf, estimateAt, Cutting, cutting, cutTurn, closed, groupsOf}
 use Rattle.groups.proofs.Parts.{group-in-rows}
 
 -- Cutting has come to estimate j: n segments are cut off and stand in the rows, and a group is being gathered.

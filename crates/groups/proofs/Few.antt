@@ -12,7 +12,8 @@ use Rattle.laws.proofs.Turns.{turns-keep}
 use Rattle.keys.specs.declared.Key.{Key}
 use Rattle.timeline.specs.declared.estimate.Estimate.{Estimate}
 use Rattle.timeline.specs.declared.segment.Segment.{Segment}
-use Rattle.groups.specs.Groups.{splits, estimateAt, Cutting, cutting, cutTurn, groupsOf, firstSegments}
+use Rattle.splits.specs.Splits.{splits}
+use Rattle.groups.specs.Groups.{estimateAt, Cutting, cutting, cutTurn, groupsOf, firstSegments}
 
 done-few : (threshold : Float) (found : List Estimate) (n : ℕ) → length (turns (cutTurn threshold found) n 0 (cutting [] 0 plusZero) .done) ≤ n
 done-few threshold found =

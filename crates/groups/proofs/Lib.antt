@@ -1,4 +1,3 @@
-mod Voting
 mod Parts
 mod Cuts
 pub mod Tiled

@@ -23,7 +23,8 @@ use Rattle.timeline.specs.Segments.{segment}
 use Rattle.timeline.specs.Tiling.{Tiles}
 use Rattle.timeline.specs.declared.estimate.Estimate.{Estimate}
 use Rattle.timeline.proofs.Tilings.{Starts, Chain, chain-more, chain→tiles}
-use Rattle.groups.specs.Groups.{grouped, groupOf, borderOf, estimateAt, splits, Cutting, cutting, cutTurn, closed, groupsOf, firstSegments}
+use Rattle.splits.specs.Splits.{borderOf, splits}
+use Rattle.groups.specs.Groups.{grouped, groupOf, estimateAt, Cutting, cutting, cutTurn, closed, groupsOf, firstSegments}
 use Rattle.groups.specs.Tiled.{GroupsTile}
 
 module _ (threshold duration : Float) (found : List Estimate) (whole : Modest binary64 duration) (rising : Rising duration found) where

@@ -1,21 +1,21 @@
 -- Estimates cut into groups and each group made a segment, written from the Rust's `estimate_segments`. Definitions only.
 use Prim.Native.Nat.{ℕ, _+_, _-_}
-use mathlib.Core.Bool.{Bool, not, _&&_, cond}
+use mathlib.Core.Bool.{cond}
 use mathlib.Core.List.{List, [], _∷_, _++_, map}
 use lib.IntN.{pos}
 use lib.ListN.{length, getD, take, drop}
 use lib.Dec.{eqb}
-use lib.Ieee.{Float, binary32, binary64, ofInt, div, le}
+use lib.Ieee.{Float, binary32, ofInt, div}
 use Rattle.laws.specs.Turns.{turns}
 use Rattle.laws.specs.Values.{plusZero}
-use Rattle.laws.specs.Convert.{midpoint}
 use Rattle.numbers.specs.Sum.{sumOf}
 use Rattle.keys.specs.declared.Key.{Key}
-use Rattle.keys.specs.Numbers.{keyNumber, keyAt, sameKey}
+use Rattle.keys.specs.Numbers.{keyNumber, keyAt}
 use Rattle.timeline.specs.Estimates.{noEstimate}
 use Rattle.timeline.specs.declared.estimate.Estimate.{Estimate}
 use Rattle.timeline.specs.Segments.{segment}
-use Rattle.groups.specs.Majority.{majorityOf}
+use Rattle.majorities.specs.Majority.{majorityOf}
+use Rattle.splits.specs.Splits.{splits, borderOf}
 use Rattle.groups.specs.declared.cut.Group.{Group}
 use Rattle.timeline.specs.declared.segment.Segment.{Segment}
 
@@ -26,10 +26,6 @@ estimateAt found i = getD found i noEstimate
 -- the entries from `from` up to `to`
 abbrev pub between : {A : Type 0} → List A → ℕ → ℕ → List A
 between xs from to = take (to - from) (drop from xs)
-
--- a window starts a group: its key is another than that of the window before, and its confidence is at or above the threshold
-unfoldable pub splits : Float → Estimate → Estimate → Bool
-splits threshold before e = not (sameKey (e .key) (before .key)) && le threshold (e .confidence)
 
 -- the sum of the confidences from -0, over their number
 unfoldable pub meanOf : List Float → Float
@@ -58,10 +54,6 @@ confidencesOf = map (λ (e : Estimate). e .confidence)
 -- the segment of the estimates from `from` up to `to`
 unfoldable pub groupOf : List Estimate → ℕ → ℕ → Float → Float → Segment
 groupOf found from to start end = groupIn (group from to start end) (numbersOf found) (confidencesOf found)
-
--- the border between two windows: midway between their centres
-unfoldable pub borderOf : Estimate → Estimate → Float
-borderOf before e = midpoint binary64 (before .centre) (e .centre)
 
 -- the segments cut off so far, and where the group that is being gathered starts: by estimate and in seconds
 pub record Cutting : Type 0 where

@@ -1,3 +1,2 @@
-pub mod Majority
 pub mod Groups
 pub mod Tiled

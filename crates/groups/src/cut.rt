@@ -3,13 +3,12 @@ ghost use mathlib.Core.Path.{_≡_};
 ghost use Prim.Native.Nat.{_+_, _<_, _≤_, _^_};
 ghost use lib.ListN.{length};
 ghost use Rattle.numbers.specs.Sum.{sumOf};
-ghost use Rattle.timeline.specs.Estimates.{Found, lentEstimates, estimatesIn, estimateIn};
+ghost use Rattle.timeline.specs.Estimates.{Found, lentEstimates, estimatesIn};
 ghost use Rattle.timeline.specs.Segments.{Room, lentSegments, putSegment, filled, standing};
-ghost use Rattle.groups.specs.Groups.{splits, meanOf, grouped, group, groupIn, borderOf, groupsOf};
-use crate::majority::majority_key;
-use keys::numbers::same_key;
-use timeline::estimate::Estimate;
-use timeline::estimate::estimate_at;
+ghost use Rattle.groups.specs.Groups.{meanOf, grouped, group, groupIn, groupsOf};
+use majorities::majority::majority_key;
+use splits::split::border_in_rows;
+use splits::split::is_split;
 use timeline::segment::Segment;
 use timeline::segment::put_segment;
 use timeline::stored::stored_key;
@@ -32,55 +31,6 @@ fn group_of(from: usize, to: usize, start: f64, end: f64) -> Group
         start,
         end,
     }
-}
-
-// Whether a window starts a group: another key than the window before, with confidence enough.
-fn starts_group(threshold: f32, before: Estimate, estimate: Estimate) -> bool
-    ensures { λ r. ⌜ r ≡ splits threshold before estimate ⌝ }
-{
-    let key = estimate.key;
-    let other = before.key;
-    !same_key(key, other) & (threshold <= estimate.confidence)
-}
-
-// Midway between the centres of two windows.
-fn border_between(before: Estimate, estimate: Estimate) -> f64
-    ensures { λ r. ⌜ r ≡ borderOf before estimate ⌝ }
-{
-    (before.centre + estimate.centre) / 2.0
-}
-
-// Whether window `next` starts a group, against window `before`.
-fn is_split(
-    threshold: f32,
-    before: usize,
-    next: usize,
-    middles: &[f64],
-    numbers: &[u8],
-    certainties: &[f32],
-) -> bool
-    requires { ⌜ (before < next) × (next < length (now middles)) × (next < length (now numbers)) × (next < length (now certainties)) ⌝ }
-    ensures { λ r. ⌜ r ≡ splits threshold (estimateIn (lentEstimates (middles .entry) (numbers .entry) (certainties .entry)) before) (estimateIn (lentEstimates (middles .entry) (numbers .entry) (certainties .entry)) next) ⌝ }
-{
-    let earlier = estimate_at(before, middles, numbers, certainties);
-    let later = estimate_at(next, middles, numbers, certainties);
-    starts_group(threshold, earlier, later)
-}
-
-// The border between two windows in the rows.
-fn border_in_rows(
-    before: usize,
-    next: usize,
-    middles: &[f64],
-    numbers: &[u8],
-    certainties: &[f32],
-) -> f64
-    requires { ⌜ (before < next) × (next < length (now middles)) × (next < length (now numbers)) × (next < length (now certainties)) ⌝ }
-    ensures { λ r. ⌜ r ≡ borderOf (estimateIn (lentEstimates (middles .entry) (numbers .entry) (certainties .entry)) before) (estimateIn (lentEstimates (middles .entry) (numbers .entry) (certainties .entry)) next) ⌝ }
-{
-    let earlier = estimate_at(before, middles, numbers, certainties);
-    let later = estimate_at(next, middles, numbers, certainties);
-    border_between(earlier, later)
 }
 
 // The confidences summed from -0.

@@ -1,3 +1,2 @@
-// Groups: estimates cut where the key changes, and a key for each group.
+// Groups: estimates cut where the key changes, and each group made a segment.
 pub mod cut;
-pub mod majority;

@@ -78,3 +78,10 @@ turns-between step n from stop s low high before after =
     ∙ ap (turns step (stop - from + (n - stop)) from) none-before
     ∙ turns-after step (stop - from) (n - stop) from s
     ∙ none-after)
+
+-- a part of a loop's state that follows a loop of its own
+pub turns-part : {S T : Type 0} (part : S → T) (step : ℕ → S → S) (own : ℕ → T → T) (n i : ℕ) → ((j : ℕ) (s : S) → j < i + n → part (step j s) ≡ own j (part s)) → (s : S) → part (turns step n i s) ≡ turns own n i (part s)
+unfolding turns
+turns-part part step own zero i e s = refl
+turns-part part step own (suc n) i e s =
+    turns-part part step own n (i + 1) (λ (j : ℕ) (s : _) (h : j < i + 1 + n). e j s (omega arith)) (step i s) ∙ ap (turns own n (i + 1)) (e i s (omega arith))

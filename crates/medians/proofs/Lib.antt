@@ -1,10 +1,4 @@
--- What the functions' proofs share: counting and sorting, then keys and the search.
-pub mod Count
-pub mod Sorted
-pub mod Keys
+-- What the functions' proofs share: halves of a range of keys, zeros, and the value of a key.
 mod Halves
-pub mod Found
-mod Under
-mod Kept
-mod Moved
+mod ByKey
 mod Zeroed

@@ -1,3 +1,1 @@
 pub mod Median
-pub mod Search
-pub mod Narrow

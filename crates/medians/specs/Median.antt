@@ -1,20 +1,9 @@
 -- The median: the middle entry of the sorted values. Definitions only.
 use Prim.Native.Nat.{_/_}
-use mathlib.Core.Bool.{cond}
-use mathlib.Core.List.{List, [], _∷_}
+use mathlib.Core.List.{List}
 use lib.ListN.{length, getD}
 use lib.Ieee.{Float, nan}
-use Rattle.laws.specs.Order.{totalOrder}
-
--- x put into a sorted list, before the first entry that it is at or before
-unfoldable pub inserted : Float → List Float → List Float
-inserted x [] = x ∷ []
-inserted x (y ∷ ys) = cond (totalOrder x y) (x ∷ y ∷ ys) (y ∷ inserted x ys)
-
--- the values in total order
-unfoldable pub sortedOf : List Float → List Float
-sortedOf [] = []
-sortedOf (x ∷ xs) = inserted x (sortedOf xs)
+use Rattle.ranks.specs.Sorted.{sortedOf}
 
 -- the entry in the middle of the sorted values, the later of two
 unfoldable pub medianOf : List Float → Float

@@ -2,19 +2,15 @@
 ghost use mathlib.Core.Path.{_≡_};
 ghost use Prim.Native.Nat.{_/_, _<_, _≤_};
 ghost use lib.ListN.{length, take, drop, replicate};
-ghost use lib.Ieee.{binary32};
 ghost use Rattle.laws.specs.Front.{front};
 ghost use Rattle.laws.specs.Values.{plusZero};
 ghost use Rattle.medians.specs.Median.{medianOf};
-ghost use Rattle.medians.specs.Search.{countBelow, keyAtRank, SoughtIn, patternOfKey, valueOfKey};
-
-mod narrowing;
-
-use narrowing::Sought;
-use narrowing::narrow;
-use narrowing::spread_at;
-use numbers::single::from_pattern;
+ghost use Rattle.ranks.specs.Search.{countBelow, keyAtRank, SoughtIn};
 use numbers::single::order_key;
+use ranks::narrowing::Sought;
+use ranks::narrowing::narrow;
+use ranks::narrowing::spread_at;
+use ranks::values::value_of_key;
 
 // How many of the first `count` values have an order key below the bound.
 fn count_below(work: &[f32], count: usize, bound: u64) -> usize
@@ -72,24 +68,6 @@ fn find_key(work: &mut [f32], count: usize, rank: usize) -> u32
         sought = narrow(work, sought, spread);
     }
     bisect(work, sought)
-}
-
-// The pattern of the value with an order key.
-fn pattern_of_key(key: u32) -> u32
-    ensures { λ r. ⌜ r ≡ patternOfKey binary32 key ⌝ }
-{
-    if key < 0x8000_0000 {
-        0xffff_ffff - key
-    } else {
-        key - 0x8000_0000
-    }
-}
-
-// The value with an order key.
-pub fn value_of_key(key: u32) -> f32
-    ensures { λ r. ⌜ r ≡ valueOfKey binary32 key ⌝ }
-{
-    from_pattern(pattern_of_key(key))
 }
 
 // Sets the first `count` values to +0.

@@ -1,2 +1,1 @@
 pub mod Fitting
-mod Segmenting

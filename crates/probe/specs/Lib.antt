@@ -1,4 +1,3 @@
 pub mod Filters
 pub mod Medians
 pub mod Packed
-pub mod Segments

@@ -8,7 +8,7 @@ use lib.Ieee.{Float}
 use Rattle.laws.specs.Front.{front}
 use Rattle.laws.specs.Values.{plusZero}
 use Rattle.medians.specs.Median.{medianOf}
-use Rattle.chroma.specs.Weighted.{weightedMedians}
+use Rattle.onsets.specs.Weighted.{weightedMedians}
 
 -- no values, or not as many as asked for
 abbrev pub unfit : ℕ → ℕ → Bool

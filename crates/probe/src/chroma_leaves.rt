@@ -5,13 +5,13 @@ ghost use mathlib.Core.Bool.{cond};
 ghost use lib.ListN.{length};
 ghost use Rattle.laws.specs.Values.{plusZero};
 ghost use Rattle.chroma.specs.Levels.{whitenedOf, normalizedOf};
-ghost use Rattle.chroma.specs.Onsets.{weightAt};
+ghost use Rattle.onsets.specs.Onsets.{weightAt};
 ghost use Rattle.chroma.specs.Shift.{shiftedOf};
 ghost use Rattle.chroma.specs.Tuning.{tuningOf};
 use chroma::levels;
-use chroma::onsets;
 use chroma::shift;
 use chroma::tuning;
+use onsets::weights::weight_at;
 
 #[repr(C)]
 pub struct Twelve {
@@ -48,7 +48,7 @@ pub extern "C" fn probe_onset_weight(energies: &[f32], j: usize) -> f32
     ensures { λ r. ⌜ r ≡ cond (ltb j (length (now (energies .entry)))) (weightAt (now (energies .entry)) j) plusZero ⌝ }
 {
     if j < energies.len() {
-        onsets::weight_at(energies, j)
+        weight_at(energies, j)
     } else {
         0.0
     }

@@ -6,5 +6,3 @@ pub mod medians_of_work;
 pub mod numbers_f32;
 pub mod numbers_f64;
 pub mod packed_numbers;
-pub mod segments_of_frames;
-pub mod segments_of_rows;

@@ -2,8 +2,8 @@
 ghost use mathlib.Core.Path.{_≡_};
 ghost use Rattle.probe.specs.Medians.{workLeft, medianOfWork, workWeighed, mediansOfWork};
 use crate::chroma_leaves::Twelve;
-use chroma::weighted::weighted_medians;
 use medians::select;
+use onsets::weighted::weighted_medians;
 
 // The median of the first numbers, and 0 where there is none.
 #[no_mangle]

@@ -9,7 +9,7 @@ use lib.ListN.{length, getD, set, length-set, take, drop}
 use Rattle.timeline.specs.Segments.{emptied, joined, segmentAt}
 use Rattle.timeline.specs.declared.segment.Segment.{Segment}
 use Rattle.shortening.specs.Shorten.{joinAt}
-use Rattle.shortening.specs.Closing.{inserted, movedDown}
+use Rattle.closing.specs.Closing.{inserted, movedDown}
 use Rattle.records.specs.Records.{copiedDown, joinedRecords}
 
 module _ {A : Type 0} where

@@ -9,7 +9,7 @@ use Rattle.laws.specs.Front.{front}
 use Rattle.timeline.specs.Segments.{emptied, seconds, joined, segmentAt}
 use Rattle.timeline.specs.declared.segment.Segment.{Segment}
 use Rattle.shortening.specs.Shorten.{shortenedOf, leftIn}
-use Rattle.shortening.specs.Closing.{movedDown}
+use Rattle.closing.specs.Closing.{movedDown}
 
 -- record i + 1 stands at i too
 abbrev pub copiedDown : ℕ → List Segment → List Segment

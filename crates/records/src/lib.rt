@@ -5,7 +5,7 @@ ghost use Prim.Native.Nat.{_+_, _-_, _<_, _≤_};
 ghost use lib.ListN.{length, set, take};
 ghost use Rattle.timeline.specs.Segments.{emptied, segmentAt};
 ghost use Rattle.shortening.specs.Shorten.{firstShort, keeper};
-ghost use Rattle.shortening.specs.Closing.{movedDown};
+ghost use Rattle.closing.specs.Closing.{movedDown};
 ghost use Rattle.records.specs.Records.{copiedDown, joinedAt, joinedRecords, placeAfter, keptPlace, left, shortenedIn};
 use timeline::segment::Segment;
 use timeline::segment::emptied_segment;

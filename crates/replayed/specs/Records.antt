@@ -9,8 +9,8 @@ use Rattle.laws.specs.Turns.{turns}
 use Rattle.laws.specs.Front.{list}
 use Rattle.laws.specs.Order.{orderKey}
 use Rattle.keys.specs.Numbers.{keyNumber}
-use Rattle.scores.specs.declared.classify.Classified.{Classified}
-use Rattle.scores.specs.Classify.{confidenceOf, classifiedOf}
+use Rattle.key_choice.specs.declared.classify.Classified.{Classified}
+use Rattle.key_choice.specs.Classify.{confidenceOf, classifiedOf}
 
 -- the number of 32 bits that starts at a byte
 unfoldable pub wordAt : List ℕ → ℕ → ℕ

@@ -5,12 +5,12 @@ ghost use mathlib.Core.Path.{_≡_};
 ghost use Prim.Native.Nat.{_+_, _*_, _≤_};
 ghost use lib.ListN.{length};
 ghost use Rattle.replayed.specs.Records.{wordAt, valueAt, sameValue, chromaAt, sameScores, sameKey, agrees, differing};
+use key_choice::classify::Classified;
+use key_choice::classify::classify_key;
+use key_choice::classify::key_confidence;
 use keys::numbers::key_number;
 use numbers::single::from_pattern;
 use numbers::single::order_key;
-use scores::classify::Classified;
-use scores::classify::classify_key;
-use scores::classify::key_confidence;
 
 // Four bytes as a number, the lowest first.
 fn word_of(low: u8, second: u8, third: u8, high: u8) -> u32

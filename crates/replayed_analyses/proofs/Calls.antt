@@ -9,8 +9,8 @@ use Rattle.calls.specs.Call.{Call, callOf}
 use Rattle.calls.specs.declared.Settings.{Settings}
 use Rattle.calls.specs.declared.SheetHead.{SheetHead}
 use Rattle.analysis.specs.Analyse.{analysed}
-use Rattle.replayed_analyses.specs.Stored.{valuesAt, numbersAt, settingsAt, headAt, callAt}
-use Rattle.replayed_analyses.specs.Outcome.{sameOutcome}
+use Rattle.stored_analyses.specs.Stored.{valuesAt, numbersAt, settingsAt, headAt, callAt}
+use Rattle.stored_analyses.specs.Outcome.{sameOutcome}
 use Rattle.replayed_analyses.specs.Analyses.{blank, agrees, recordsIn}
 
 -- each record that is counted ends before the file does

@@ -11,8 +11,8 @@ use Rattle.timeline.specs.Estimates.{estimateRows}
 use Rattle.timeline.specs.Segments.{segmentRows}
 use Rattle.rooms.specs.Lent.{Lent, lent}
 use Rattle.analysis.specs.Analyse.{analysed}
-use Rattle.replayed_analyses.specs.Stored.{callAt}
-use Rattle.replayed_analyses.specs.Outcome.{sameOutcome}
+use Rattle.stored_analyses.specs.Stored.{callAt}
+use Rattle.stored_analyses.specs.Outcome.{sameOutcome}
 
 -- so many zeros
 abbrev pub zeros : ℕ → List Float

@@ -1,4 +1,1 @@
-pub mod Stored
-pub mod Rows
-pub mod Outcome
 pub mod Analyses

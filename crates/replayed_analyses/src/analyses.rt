@@ -4,16 +4,16 @@ ghost use Prim.Native.Nat.{_+_, _≤_};
 ghost use lib.ListN.{length};
 ghost use Rattle.calls.specs.Call.{given};
 ghost use Rattle.analysis.specs.Analyse.{analysed};
-ghost use Rattle.replayed_analyses.specs.Outcome.{sameOutcome};
+ghost use Rattle.stored_analyses.specs.Outcome.{sameOutcome};
 ghost use Rattle.replayed_analyses.specs.Analyses.{blank, agrees, recordsIn, differing};
-use crate::outcome::outcome_agrees;
-use crate::stored::head_at;
-use crate::stored::read_numbers;
-use crate::stored::read_values;
-use crate::stored::settings_at;
 use analysis::analyse::analyse;
 use calls::Settings;
 use calls::SheetHead;
+use stored_analyses::outcome::outcome_agrees;
+use stored_analyses::stored::head_at;
+use stored_analyses::stored::read_numbers;
+use stored_analyses::stored::read_values;
+use stored_analyses::stored::settings_at;
 
 // Whether the call answers and leaves what the record says.
 fn call_agrees(

@@ -3,6 +3,3 @@
 // coefficients and 14 weights of Goertzel rows, 14 lengths and 14 coefficients of constant-Q rows, 820 values of
 // their windows. A record: the ten numbers of the settings, 384 samples, the answer and all that is left in the rows.
 pub mod analyses;
-pub mod outcome;
-pub mod rows;
-pub mod stored;

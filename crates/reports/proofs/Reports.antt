@@ -5,7 +5,7 @@ use Rattle.calls.specs.declared.Settings.{Settings}
 use Rattle.timeline.specs.Estimates.{EstimateRows}
 use Rattle.timeline.specs.Segments.{SegmentRows, segmentsIn}
 use Rattle.windows.specs.Span.{spanOf}
-use Rattle.windows.specs.Gather.{Heard}
+use Rattle.gathering.specs.Gather.{Heard}
 use Rattle.windows.specs.declared.span.Span.{Span}
 use Rattle.segments.specs.Track.{outcome, locatedOf, Prepared}
 use Rattle.segments.specs.declared.fill.Track.{Track}

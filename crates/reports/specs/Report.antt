@@ -8,13 +8,13 @@ use Rattle.timeline.specs.Estimates.{EstimateRows}
 use Rattle.timeline.specs.Segments.{SegmentRows, segmentsIn}
 use Rattle.timeline.specs.declared.segment.Segment.{Segment}
 use Rattle.windows.specs.Span.{spanOf}
-use Rattle.windows.specs.Gather.{Heard}
+use Rattle.gathering.specs.Gather.{Heard}
 use Rattle.windows.specs.declared.span.Span.{Span}
 use Rattle.segments.specs.Track.{Outcome, locatedOf}
 use Rattle.segments.specs.declared.fill.Track.{Track}
 use Rattle.segments.specs.declared.track.Located.{Located}
 use Rattle.segments.specs.declared.track.Located.the-variants.{Told, Halted}
-use Rattle.alternates.specs.Longest.{reportedOf}
+use Rattle.longest.specs.Longest.{reportedOf}
 use Rattle.alternates.specs.Alternate.{alternateOf}
 use Rattle.verdicts.specs.Answer.{counts, keyless, withAlternate}
 use Rattle.verdicts.specs.declared.answer.AnalyseResult.{AnalyseResult}

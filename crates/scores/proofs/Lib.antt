@@ -1,4 +1,3 @@
 -- What the functions' proofs share, on plain values.
-mod Branches
-mod Turned
+mod Modes
 pub mod Counted

@@ -1,7 +1,3 @@
 pub mod Profiles
-pub mod Correlation
-pub mod Distances
-pub mod Lanes
+pub mod Modes
 pub mod Scores
-pub mod Places
-pub mod Classify

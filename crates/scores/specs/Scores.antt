@@ -6,7 +6,7 @@ use Rattle.laws.specs.Turns.{turns}
 use Rattle.laws.specs.Front.{list}
 use Rattle.laws.specs.Values.{plusZero}
 use Rattle.scores.specs.Profiles.{profileAt}
-use Rattle.scores.specs.Correlation.{correlationOf}
+use Rattle.correlations.specs.Correlation.{correlationOf}
 
 -- profile p of the mode, 0 for major and 1 for minor
 abbrev pub scoreTurn : List Float → ℕ → ℕ → ℕ → Float → Float

@@ -1,8 +1,3 @@
-// Scores of the 24 keys from a chroma, and the key that they tell.
-pub mod classify;
-pub mod correlation;
-pub mod distances;
-pub mod lanes;
-pub mod places;
+// The eight key profiles, and the scores of the 24 keys from a chroma.
 pub mod profiles;
 pub mod scoring;

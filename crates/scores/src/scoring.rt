@@ -2,14 +2,14 @@
 ghost use mathlib.Core.Path.{_≡_};
 ghost use Prim.Native.Nat.{_<_};
 ghost use Rattle.scores.specs.Profiles.{profileAt};
-ghost use Rattle.scores.specs.Distances.{wheelOf};
-ghost use Rattle.scores.specs.Lanes.{addedAll, modeSums};
+ghost use Rattle.correlations.specs.Distances.{wheelOf};
+ghost use Rattle.scores.specs.Modes.{addedAll, modeSums};
 ghost use Rattle.scores.specs.Scores.{scoresOf};
-use crate::correlation::correlations;
-use crate::distances::distances;
-use crate::distances::energy;
-use crate::distances::wheel;
 use crate::profiles::PROFILES;
+use correlations::correlation::correlations;
+use correlations::distances::distances;
+use correlations::distances::energy;
+use correlations::distances::wheel;
 
 // The wheel of the profile in a row of the table.
 fn wheel_at(row: usize) -> [f32; 23]

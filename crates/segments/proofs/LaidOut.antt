@@ -16,7 +16,7 @@ use Rattle.timeline.specs.declared.segment.Segment.{Segment}
 use Rattle.timeline.proofs.Estimates.{rows-read-back}
 use Rattle.timeline.proofs.Segments.{segment-there, segments-read-back}
 use Rattle.windows.specs.Span.{brief, budgetFor, longestTrack, windowsWithin, windowsOf}
-use Rattle.windows.specs.Gather.{Heard}
+use Rattle.gathering.specs.Gather.{Heard}
 use Rattle.windows.specs.Run.{estimatesBefore, ran, runOf}
 use Rattle.windows.specs.Rising.{Timed}
 use Rattle.windows.specs.declared.span.Span.{Span}

@@ -15,7 +15,7 @@ use Rattle.timeline.specs.Segments.{SegmentRows, Room, filled}
 use Rattle.timeline.specs.declared.estimate.Estimate.{Estimate}
 use Rattle.timeline.proofs.Estimates.{rows-numbered}
 use Rattle.windows.specs.Span.{windowsOf}
-use Rattle.windows.specs.Gather.{Heard}
+use Rattle.gathering.specs.Gather.{Heard}
 use Rattle.windows.specs.Run.{estimatesBefore, stuckAt, Run, ran, runOf, Ready}
 use Rattle.windows.specs.declared.span.Span.{Span}
 use Rattle.windows.specs.declared.run.Estimated.{Estimated}

@@ -11,7 +11,7 @@ use Rattle.timeline.specs.declared.estimate.Estimate.{Estimate}
 use Rattle.timeline.specs.declared.segment.Segment.{Segment}
 use Rattle.timeline.specs.Tiling.{Tiles, NoneShort}
 use Rattle.windows.specs.Span.{budgetFor, longestTrack}
-use Rattle.windows.specs.Gather.{Heard}
+use Rattle.gathering.specs.Gather.{Heard}
 use Rattle.windows.specs.Rising.{Timed}
 use Rattle.windows.specs.declared.span.Span.{Span}
 use Rattle.segments.specs.Fill.{segmentsOf}

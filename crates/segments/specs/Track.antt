@@ -3,7 +3,7 @@ use Prim.Native.Nat.{ℕ}
 use Rattle.timeline.specs.Estimates.{EstimateRows, estimatesIn}
 use Rattle.timeline.specs.Segments.{SegmentRows, Filled, Room}
 use Rattle.windows.specs.Span.{windowsOf}
-use Rattle.windows.specs.Gather.{Heard}
+use Rattle.gathering.specs.Gather.{Heard}
 use Rattle.windows.specs.Run.{runOf, Ready}
 use Rattle.windows.specs.declared.span.Span.{Span}
 use Rattle.windows.specs.declared.run.Estimated.{Estimated}

@@ -2,7 +2,7 @@
 ghost use mathlib.Core.Path.{_≡_};
 ghost use Rattle.timeline.specs.Estimates.{lentEstimates};
 ghost use Rattle.timeline.specs.Segments.{lentSegments};
-ghost use Rattle.windows.specs.Gather.{heard};
+ghost use Rattle.gathering.specs.Gather.{heard};
 ghost use Rattle.segments.specs.Track.{outcome, locatedOf, Prepared};
 use crate::fill::Track;
 use crate::fill::fill_segments;

@@ -12,8 +12,8 @@ use Rattle.laws.proofs.Column.{Column}
 use Rattle.timeline.specs.Segments.{emptied, joined, segmentAt}
 use Rattle.timeline.specs.declared.segment.Segment.{Segment}
 use Rattle.shortening.specs.Shorten.{joinAt}
-use Rattle.shortening.specs.Closing.{inserted, movedDown}
-use Rattle.shortening.proofs.Moves.{length-moved}
+use Rattle.closing.specs.Closing.{inserted, movedDown}
+use Rattle.closing.proofs.Moves.{length-moved}
 use Rattle.shortening.proofs.Settles.{joinAt-length}
 
 inserted-seam : {A : Type 0} (x : A) (xs rest : List A) → inserted (length xs) x (xs ++ rest) ≡ xs ++ (x ∷ rest)

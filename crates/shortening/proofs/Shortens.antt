@@ -18,7 +18,7 @@ use Rattle.timeline.specs.Segments.{emptied, joined, segment, segmentAt, Segmen
 use Rattle.timeline.specs.declared.segment.Segment.{Segment}
 use Rattle.timeline.proofs.Segments.{same-rows}
 use Rattle.shortening.specs.Shorten.{firstShort, keeper, joinShort, unsettled, shorten, shortenedOf, leftIn, settled}
-use Rattle.shortening.specs.Closing.{closedRows, joinedRows}
+use Rattle.closing.specs.Closing.{closedRows, joinedRows}
 use Rattle.shortening.proofs.Joins.{padded, column-own, column-read, column-join}
 use Rattle.shortening.proofs.Settles.{several, found, joins-on, firstShort-within, keeper-within, joinShort-length, to-join, few-settled, long-settled, stays}
 

@@ -1,3 +1,2 @@
 pub mod Shorten
-pub mod Closing
 pub mod Ends

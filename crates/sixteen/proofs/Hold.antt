@@ -14,14 +14,15 @@ use Rattle.chroma.specs.Shift.{classOf, blended, readAt, shifted}
 use Rattle.roots.specs.Root.{wholeRoot, doubledRoot, rootOfUnits, rootOf}
 use Rattle.keys.specs.Numbers.{tonics}
 use Rattle.scores.specs.Profiles.{profiles, profileAt}
-use Rattle.scores.specs.Correlation.{sumsOf, quotientOf, correlationOf}
+use Rattle.correlations.specs.Correlation.{sumsOf, quotientOf, correlationOf}
 use Rattle.scores.specs.Scores.{scoreOf, scoresOf}
-use Rattle.scores.specs.Places.{placed, candidateAt, placesOf}
-use Rattle.scores.specs.Classify.{louder, chosenKey, confidenceOf, classifiedOf}
+use Rattle.key_choice.specs.Places.{placed, candidateAt, placesOf}
+use Rattle.key_choice.specs.Classify.{louder, chosenKey, confidenceOf, classifiedOf}
 use Rattle.laws.specs.First.{first}
 use Rattle.timeline.specs.Segments.{seconds, short, joined}
-use Rattle.groups.specs.Majority.{countOf, majorityOf}
-use Rattle.groups.specs.Groups.{splits, grouped, groupOf, cutTurn, groupsOf}
+use Rattle.majorities.specs.Majority.{countOf, majorityOf}
+use Rattle.splits.specs.Splits.{splits}
+use Rattle.groups.specs.Groups.{grouped, groupOf, cutTurn, groupsOf}
 use Rattle.shortening.specs.Shorten.{firstShort, keeper, joinAt, unsettled, joinShort, shorten, shortenedOf}
 use Rattle.alternates.specs.Alternate.{heard, lasting, totalOf, numberAt, lastsIn, secondsTurn, secondsOf, rivals, rivalOf, coverageOf, lacks, alternateOf}
 use Rattle.bits.specs.Bits.{bitsOf, numberOf, bytesCut}

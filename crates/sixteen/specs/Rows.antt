@@ -12,7 +12,7 @@ use Rattle.keys.specs.Numbers.{keyNumber, keyAt, sameKey}
 use Rattle.timeline.specs.declared.estimate.Estimate.{Estimate}
 use Rattle.timeline.specs.declared.segment.Segment.{Segment}
 use Rattle.timeline.specs.Segments.{segment, emptied}
-use Rattle.groups.specs.Majority.{majorityOf}
+use Rattle.majorities.specs.Majority.{majorityOf}
 use Rattle.groups.specs.Groups.{groupsOf}
 use Rattle.shortening.specs.Shorten.{shortenedOf}
 use Rattle.alternates.specs.declared.alternate.Alternate.{Alternate}
@@ -22,8 +22,8 @@ use Rattle.card.specs.Layout.{layout1}
 use Rattle.card_writer.specs.Form.{cardBytes}
 use Rattle.card.specs.Rules.{noKey}
 use Rattle.card_writer.specs.Analysed.{Analysis, analysis, meaningOf, unwritable}
-use Rattle.scores.specs.declared.classify.Classified.{Classified}
-use Rattle.scores.specs.Classify.{confidenceOf, classifiedOf}
+use Rattle.key_choice.specs.declared.classify.Classified.{Classified}
+use Rattle.key_choice.specs.Classify.{confidenceOf, classifiedOf}
 
 -- a row: its letter in ASCII, and whether it holds
 pub record Row : Type 0 where

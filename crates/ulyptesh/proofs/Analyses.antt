@@ -2,7 +2,8 @@
 use mathlib.Core.Path.{_≡_, sym, subst}
 use Rattle.calls.specs.Call.{Call}
 use Rattle.rooms.specs.Lent.{Lent}
-use Rattle.analysis.specs.Analyse.{Outcome, analysed}
+use Rattle.loud_frames.specs.Loud.{Outcome}
+use Rattle.analysis.specs.Analyse.{analysed}
 use Rattle.analysis.specs.Demand.{DemandThree, Typed}
 use Rattle.analysis.proofs.Demand.{analysis-keeps}
 use Rattle.ulyptesh.specs.Analysis.{Promised}

@@ -1,10 +1,6 @@
 -- Each promise is an equality, so it allows one outcome.
 use mathlib.Core.Path.{sym, _∙_}
-use Rattle.ulyptesh.specs.FromChroma.{ScoresUnique, KeyUnique}
-use Rattle.ulyptesh.specs.KeyNames.{KeyNameUnique}
-use Rattle.ulyptesh.specs.Cards.{CardUnique}
-use Rattle.ulyptesh.specs.FramesOnly.{FramesUnique}
-use Rattle.ulyptesh.specs.Analysis.{AnalyseUnique}
+use Rattle.ulyptesh.specs.Unique.{ScoresUnique, KeyUnique, KeyNameUnique, CardUnique, FramesUnique, AnalyseUnique}
 
 pub scores-unique : ScoresUnique
 scores-unique chroma places a b p q = p ∙ sym q

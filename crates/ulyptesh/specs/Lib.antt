@@ -1,6 +1,2 @@
-pub mod FromChroma
-pub mod Written
-pub mod KeyNames
-pub mod Cards
-pub mod FramesOnly
 pub mod Analysis
+pub mod Unique

@@ -1,7 +1,7 @@
 // The call "analyse".
 ghost use Rattle.calls.specs.Call.{given};
 ghost use Rattle.rooms.specs.Lent.{lentAll};
-ghost use Rattle.analysis.specs.Analyse.{outcome};
+ghost use Rattle.loud_frames.specs.Loud.{outcome};
 ghost use Rattle.ulyptesh.specs.Analysis.{Promised};
 use analysis::analyse::analyse;
 use calls::Settings;

@@ -8,8 +8,8 @@ use Rattle.numbers.specs.Sum.{sumOf}
 use Rattle.chroma.specs.Levels.{normalizedOf}
 use Rattle.chroma.specs.Shift.{retunedOf}
 use Rattle.chroma.specs.Tuning.{tuningOf}
-use Rattle.scores.specs.Classify.{confidenceOf, classifiedOf}
-use Rattle.scores.specs.declared.classify.Classified.{Classified}
+use Rattle.key_choice.specs.Classify.{confidenceOf, classifiedOf}
+use Rattle.key_choice.specs.declared.classify.Classified.{Classified}
 use Rattle.verdicts.specs.declared.verdict.Verdict.{Verdict}
 
 -- the medians sum to at most 2^-23

@@ -6,10 +6,10 @@ ghost use Rattle.verdicts.specs.Verdict.{faint, tunedOf, verdictOf};
 use chroma::levels::normalize_chroma;
 use chroma::shift::retune_chroma;
 use chroma::tuning::estimate_tuning;
+use key_choice::classify::classify_key;
+use key_choice::classify::key_confidence;
 use keys::Key;
 use numbers::twelve::sum_of_twelve;
-use scores::classify::classify_key;
-use scores::classify::key_confidence;
 
 // The track's chroma, its key and the confidence in it.
 pub struct Verdict {

@@ -1,7 +1,6 @@
 -- Laws that the functions' proofs share, and the theorems.
 pub mod Starts
 pub mod Found
-pub mod Known
 pub mod Runs
 pub mod Budget
 pub mod Rising

@@ -20,7 +20,7 @@ use Rattle.laws.proofs.Order.{le-refl, le-trans}
 use Rattle.laws.proofs.Nonneg.{nonneg→clear, clear→ordered, add-clear, add-mono, div-clear}
 use Rattle.laws.proofs.Middle.{half-under, modest-under}
 use Rattle.windows.specs.Span.{startOf, endsAt, windowsWithin}
-use Rattle.windows.specs.Gather.{Heard}
+use Rattle.gathering.specs.Gather.{Heard}
 use Rattle.windows.specs.Estimates.{estimateOf}
 use Rattle.windows.specs.Run.{estimateFrom, silent, estimatesBefore}
 use Rattle.timeline.specs.Estimates.{noEstimate, centreAt, Rising}

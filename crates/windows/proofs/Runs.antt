@@ -13,17 +13,17 @@ use Rattle.laws.proofs.First.{first-start, first-again, first-out, first-end}
 use Rattle.laws.proofs.Column.{Column, column-start, column-more}
 use Rattle.keys.specs.Numbers.{keyNumber}
 use Rattle.windows.specs.Span.{startOf}
-use Rattle.windows.specs.Gather.{Heard, heard}
-use Rattle.windows.specs.Ahead.{aheadOf, skippedTo, Known}
+use Rattle.gathering.specs.Gather.{Heard, heard}
+use Rattle.gathering.specs.Ahead.{aheadOf, skippedTo, Known}
 use Rattle.timeline.specs.Estimates.{EstimateRows, estimateRows, holdingEstimates}
 use Rattle.windows.specs.Run.{estimateFrom, silent, estimatesBefore, stays, stuckAt, Written, wrote, windowWritten, ran, runTo, runOf, Ready}
-use Rattle.windows.specs.declared.ahead.Ahead.{Ahead}
+use Rattle.gathering.specs.declared.ahead.Ahead.{Ahead}
 use Rattle.windows.specs.declared.span.Span.{Span}
 use Rattle.timeline.specs.declared.estimate.Estimate.{Estimate}
 use Rattle.windows.specs.declared.run.Estimated.{Estimated}
 use Rattle.windows.specs.declared.run.Estimated.the-variants.{All, Stuck}
 use Rattle.windows.proofs.Found.{after-silent, after-heard}
-use Rattle.windows.proofs.Known.{known-start, known-skip, known-later, known-heard}
+use Rattle.gathering.proofs.Known.{known-start, known-skip, known-later, known-heard}
 use Rattle.windows.proofs.Starts.{start-first, start-next, stuck-here}
 
 same-rows : {a b : EstimateRows} → a .centres ≡ b .centres → a .keys ≡ b .keys → a .confidences ≡ b .confidences → a ≡ b

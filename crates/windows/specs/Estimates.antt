@@ -2,8 +2,8 @@
 use mathlib.Core.List.{List}
 use lib.Ieee.{Float}
 use Rattle.chroma.specs.Levels.{normalizedOf}
-use Rattle.scores.specs.declared.classify.Classified.{Classified}
-use Rattle.scores.specs.Classify.{confidenceOf, classifiedOf}
+use Rattle.key_choice.specs.declared.classify.Classified.{Classified}
+use Rattle.key_choice.specs.Classify.{confidenceOf, classifiedOf}
 use Rattle.timeline.specs.declared.estimate.Estimate.{Estimate}
 
 -- what the scores tell of a window with this centre

@@ -1,6 +1,4 @@
 pub mod Span
-pub mod Gather
-pub mod Ahead
 pub mod Estimates
 pub mod Run
 pub mod Budget

@@ -5,7 +5,7 @@ use lib.Ieee.{binary64}
 use Rattle.laws.specs.Values.{clear, Held, Modest}
 use Rattle.timeline.specs.Estimates.{Rising}
 use Rattle.windows.specs.Span.{windowsWithin}
-use Rattle.windows.specs.Gather.{Heard}
+use Rattle.gathering.specs.Gather.{Heard}
 use Rattle.windows.specs.Run.{estimatesBefore}
 use Rattle.windows.specs.declared.span.Span.{Span}
 

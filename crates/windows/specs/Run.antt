@@ -8,11 +8,11 @@ use lib.Ieee.{Float, binary64, add, lt}
 use Rattle.laws.specs.First.{first}
 use Rattle.laws.specs.Convert.{half}
 use Rattle.windows.specs.Span.{startOf}
-use Rattle.windows.specs.Gather.{Heard, gatheredOf}
+use Rattle.gathering.specs.Gather.{Heard, gatheredOf}
 use Rattle.timeline.specs.Estimates.{EstimateRows, putEstimate, holdingEstimates}
 use Rattle.windows.specs.Estimates.{estimateOf}
 use Rattle.windows.specs.declared.span.Span.{Span}
-use Rattle.windows.specs.declared.gather.Gathered.{Gathered}
+use Rattle.gathering.specs.declared.gather.Gathered.{Gathered}
 use Rattle.timeline.specs.declared.estimate.Estimate.{Estimate}
 use Rattle.windows.specs.declared.run.Estimated.{Estimated}
 use Rattle.windows.specs.declared.run.Estimated.the-variants.{All, Stuck}

@@ -2,8 +2,8 @@
 ghost use mathlib.Core.Path.{_≡_};
 ghost use Rattle.windows.specs.Estimates.{estimateOf};
 use chroma::levels::normalize_chroma;
-use scores::classify::classify_key;
-use scores::classify::key_confidence;
+use key_choice::classify::classify_key;
+use key_choice::classify::key_confidence;
 use timeline::estimate::Estimate;
 
 // What a window's summed chroma tells.

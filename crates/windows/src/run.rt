@@ -2,16 +2,16 @@
 ghost use mathlib.Core.Path.{_≡_};
 ghost use Prim.Native.Nat.{_+_, _<_, _≤_, _^_};
 ghost use lib.ListN.{length};
-ghost use Rattle.windows.specs.Gather.{heard};
-ghost use Rattle.windows.specs.Ahead.{Known};
+ghost use Rattle.gathering.specs.Gather.{heard};
+ghost use Rattle.gathering.specs.Ahead.{Known};
 ghost use Rattle.timeline.specs.Estimates.{lentEstimates};
 ghost use Rattle.windows.specs.Run.{windowWritten, wrote, ran, runOf, Ready};
-use crate::ahead::Ahead;
-use crate::ahead::look_ahead;
-use crate::ahead::skip_frames;
 use crate::estimate::estimate_of;
-use crate::gather::gather_window;
 use crate::span::Span;
+use gathering::ahead::Ahead;
+use gathering::ahead::look_ahead;
+use gathering::ahead::skip_frames;
+use gathering::gather::gather_window;
 use timeline::estimate::put_estimate;
 
 // What the run says: all windows with so many estimates, or a start that did not grow with so many before it.

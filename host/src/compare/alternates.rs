@@ -5,7 +5,8 @@ use super::key_lime::expose::{key_from_index, key_number, longest_segment_key, s
 use super::segment_lists::{
     Segment, anything, as_theirs, even, instants, put_segments, tiled, untouched_segments,
 };
-use ulyptesh::segments::{SegmentRows, alternate, reported};
+use ulyptesh::probe::segments::{alternate, reported};
+use ulyptesh::segments::SegmentRows;
 
 /// Streams of the seed from here on are the alternates'.
 const STREAM: u64 = 60_010;

@@ -4,7 +4,7 @@ use super::groups::Compared;
 use super::segment_calls::rows_asked;
 use std::sync::Arc;
 use ulyptesh::analysis::{frame_positions, windows};
-use ulyptesh::segments::Track;
+use ulyptesh::probe::segments::Track;
 use ulyptesh::sheet::{Settings, Sheet};
 
 /// A call for frames with the lengths of their rows, and of the rest that is lent: work numbers, three lists for

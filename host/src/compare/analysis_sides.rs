@@ -10,7 +10,8 @@ use super::segment_lists::put_joined;
 use super::segments::{their_estimates, their_groups};
 use ulyptesh::analysis::{AnalyseResult, Buffers, analyse};
 use ulyptesh::frames::FrameRows;
-use ulyptesh::segments::{EstimateRows, SegmentRows, Track};
+use ulyptesh::probe::segments::Track;
+use ulyptesh::segments::{EstimateRows, SegmentRows};
 
 /// The number of a missing key.
 const NO_KEY: u32 = 24;

@@ -5,7 +5,8 @@ use super::groups::{Groups, compared_as_shown};
 use super::key_lime::expose::{Estimate, key_from_index, key_number, majority_key, segments_of_estimates};
 use super::key_lime::{KeyConfig, KeySegment};
 use super::segment_lists::{put_joined, untouched_segments};
-use ulyptesh::segments::{Cutting, EstimateRows, SegmentRows, cut, majority};
+use ulyptesh::probe::segments::{Cutting, cut, majority};
+use ulyptesh::segments::{EstimateRows, SegmentRows};
 
 /// Streams of the seed from here on are the estimates'.
 const STREAM: u64 = 60_020;

@@ -2,7 +2,8 @@
 use super::filters_tables::{Tables, heads};
 use super::groups::{Compared, Groups};
 use super::random::patterns;
-use ulyptesh::sheet::{Settings, Sheet, SheetHead, probe_sheet_matches};
+use ulyptesh::probe::sheet::probe_sheet_matches;
+use ulyptesh::sheet::{Settings, Sheet, SheetHead};
 
 /// So many random sheets are judged.
 const RANDOM_SHEETS: usize = 20_000;

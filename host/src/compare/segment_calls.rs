@@ -1,6 +1,6 @@
 //! Calls for the segments of a track, the rows that they ask for, and what the oracle is given for them.
 use super::key_lime::{ChromaFrame, KeyConfig};
-use ulyptesh::segments::Track;
+use ulyptesh::probe::segments::Track;
 use ulyptesh::sheet::Settings;
 
 /// The library counts no more windows: two a second of the longest track, and one.

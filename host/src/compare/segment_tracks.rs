@@ -3,7 +3,7 @@ use super::chromas::{Chroma, Kind, plain_kinds_from};
 use super::dice::Dice;
 use super::key_lime::expose::estimates;
 use super::segment_calls::{Asked, config, duration, frames, is_brief, rows_asked};
-use ulyptesh::segments::Track;
+use ulyptesh::probe::segments::Track;
 use ulyptesh::sheet::Settings;
 
 const MOST_FRAMES: usize = 120;

@@ -5,7 +5,8 @@ use super::key_lime::expose::merge_short_segments;
 use super::segment_lists::{
     Segment, anything, as_theirs, put_joined, put_segments, tiled, untouched_segments,
 };
-use ulyptesh::segments::{SegmentRows, shorten};
+use ulyptesh::probe::segments::shorten;
+use ulyptesh::segments::SegmentRows;
 
 /// Streams of the seed from here on are the shortening's.
 const STREAM: u64 = 60_000;

@@ -8,7 +8,7 @@ use super::tracks::chords;
 use ulyptesh::analysis::{Buffers, analyse};
 use ulyptesh::frames::FrameRows;
 use ulyptesh::probe::weighted_medians;
-use ulyptesh::segments::Track;
+use ulyptesh::probe::segments::Track;
 use ulyptesh::sheet::{Settings, Sheet};
 
 const RATES: [u32; 2] = [44_100, 48_000];

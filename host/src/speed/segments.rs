@@ -5,7 +5,8 @@ use super::key_lime::expose::{estimate_segments, key_from_index};
 use super::rounds::{Pair, header};
 use super::segment_calls::{self, config};
 use ulyptesh::analysis::{Buffers, frame_positions};
-use ulyptesh::segments::{EstimateRows, SegmentRows, Track, segments};
+use ulyptesh::probe::segments::{Track, segments};
+use ulyptesh::segments::{EstimateRows, SegmentRows};
 use ulyptesh::sheet::Settings;
 
 const RATE: u32 = 44_100;

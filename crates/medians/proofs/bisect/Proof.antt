@@ -1,8 +1,8 @@
 -- A part of the keys goes in a turn, and the one at the rank stays.
 use native.Mathlib.Omega.{arith}
-use Rattle.medians.specs.Search.{SoughtIn}
+use Rattle.ranks.specs.Search.{SoughtIn}
 use Rattle.medians.proofs.Halves.{upper-part, lower-part}
-use Rattle.medians.proofs.Found.{search-ends}
+use Rattle.ranks.proofs.Found.{search-ends}
 use borrow.Author.Needs.{needs}
 use Rattle.medians.proofs.bisect.Statement.{statement}
 use Rattle.medians.proofs.bisect.Tie as tie

@@ -3,10 +3,10 @@ use mathlib.Core.Path.{_≡_, refl, _∙_}
 use Prim.Native.Nat.{_≤_, _-_}
 use native.Mathlib.Omega.{arith}
 use lib.ListN.{length}
-use Rattle.medians.specs.Search.{SoughtIn}
-use Rattle.medians.specs.Narrow.{Narrowed}
-use Rattle.medians.proofs.Found.{search-starts}
-use Rattle.medians.proofs.Kept.{narrowed-same, narrowed-more}
+use Rattle.ranks.specs.Search.{SoughtIn}
+use Rattle.ranks.specs.Narrow.{Narrowed}
+use Rattle.ranks.proofs.Found.{search-starts}
+use Rattle.ranks.proofs.Kept.{narrowed-same, narrowed-more}
 use borrow.Author.Needs.{needs}
 use Rattle.medians.proofs.find_key.Statement.{statement}
 use Rattle.medians.proofs.find_key.Tie as tie

@@ -1,7 +1,7 @@
 -- The value with the key at the middle rank is the median; then the values are zeroed.
 use mathlib.Core.Path.{_∙_}
 use native.Mathlib.Omega.{arith}
-use Rattle.medians.proofs.Found.{median-by-key}
+use Rattle.medians.proofs.ByKey.{median-by-key}
 use Rattle.laws.specs.Values.{plusZero}
 use Rattle.medians.proofs.Zeroed.{zeroed-rest}
 use borrow.Author.Needs.{needs}

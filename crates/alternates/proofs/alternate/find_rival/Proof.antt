@@ -15,7 +15,8 @@ use Rattle.laws.proofs.Leader.{turn-idle, turn-known, turn-first}
 use Rattle.timeline.specs.Segments.{SegmentRows, segmentRows, lentSegments, segmentsIn}
 use Rattle.timeline.specs.declared.segment.Segment.{Segment}
 use Rattle.alternates.specs.Alternate.{numberAt, secondsOf, rivals, rivalOf, standingOf}
-use Rattle.alternates.proofs.Rows.{rows-start, number-told, rival-told, place-told}
+use Rattle.longest.proofs.Rows.{rows-start}
+use Rattle.alternates.proofs.Rows.{number-told, rival-told, place-told}
 use Rattle.alternates.proofs.alternate.find_rival.Statement.{statement}
 use Rattle.alternates.proofs.alternate.find_rival.Tie as tie
 

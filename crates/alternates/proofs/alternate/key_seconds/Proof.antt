@@ -11,7 +11,8 @@ use Rattle.laws.specs.Turns.{turns}
 use Rattle.laws.proofs.Turns.{turns-again, turns-end}
 use Rattle.timeline.specs.Segments.{SegmentRows, segmentRows, lentSegments, segmentAt, segmentsIn}
 use Rattle.timeline.specs.declared.segment.Segment.{Segment}
-use Rattle.alternates.proofs.Rows.{read-at, lasts-told, rows-start}
+use Rattle.longest.proofs.Rows.{read-at, rows-start}
+use Rattle.alternates.proofs.Rows.{lasts-told}
 use Rattle.alternates.specs.Alternate.{heard, lastsIn, secondsTurn, secondsOf}
 use Rattle.alternates.proofs.alternate.key_seconds.Statement.{statement}
 use Rattle.alternates.proofs.alternate.key_seconds.Tie as tie

@@ -8,7 +8,7 @@ use Rattle.laws.specs.Values.{minusZero}
 use Rattle.laws.specs.Turns.{turns}
 use Rattle.laws.proofs.Turns.{turns-again, turns-end}
 use Rattle.timeline.specs.Segments.{SegmentRows, segmentRows, lentSegments, segmentsIn}
-use Rattle.alternates.proofs.Rows.{read-at, rows-start}
+use Rattle.longest.proofs.Rows.{read-at, rows-start}
 use Rattle.timeline.specs.declared.segment.Segment.{Segment}
 use Rattle.alternates.specs.Alternate.{heard, totalTurn, totalOf}
 use Rattle.alternates.proofs.alternate.total_seconds.Statement.{statement}

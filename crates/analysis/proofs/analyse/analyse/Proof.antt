@@ -21,16 +21,16 @@ rented s = let args = s .args in lentAll (args .centres) (args .values) (args .e
 
 -- the call's start, seen from where the checks have answered; and their answer is the table's
 abbrev start : tie.After-check → tie.Start
-start c = c .before .before .before .before .before .before .before .before .before .before .before .before .before .before .before .before .before .before .before .before .before .before .before .before .before .before .before .before .before .before .before
+start c = c .before .before .before .before .before .before .before .before .before .before .before .before .before .before .before .before .before .before .before .before .before .before .before .before .before .before .before .before .before .before
 
 told : (c : tie.After-check) (known : Checked) → c .check .result ≡ known → tableOf (asked (start c)) (rented (start c)) ≡ known
 told c known e =
     let room = c .before .before in
     let segments = room .before in
     let estimates = segments .before .before .before .before .before in
-    let frames = estimates .before .before .before .before in
+    let rows = estimates .before .before .before .before in
     table-says (asked (start c)) (rented (start c)) (c .before .is-hasty .ensures)
-    (room-is (asked (start c)) (rented (start c)) (frames .before .fewest .ensures) (frames .fewer .ensures) (estimates .estimate-room .ensures) (segments .segment-room .ensures) (room .room-for .ensures))
+    (room-is (asked (start c)) (rented (start c)) (rows .fewest .ensures) (estimates .estimate-room .ensures) (segments .segment-room .ensures) (room .room-for .ensures))
     (c .check .ensures) e
 
 -- a note is a byte, and a setting an f32
@@ -42,9 +42,6 @@ typed s = record { window = search needs }
 
 fewest-requires : tie.Need-fewest-requires
 fewest-requires c κs = search needs
-
-fewer-requires : tie.Need-fewer-requires
-fewer-requires c κs = search needs
 
 estimate-room-requires : tie.Need-estimate-room-requires
 estimate-room-requires c κs = search needs
@@ -177,7 +174,6 @@ analyse-spec =
     tie.close
     (tie.spec
     fewest-requires
-    fewer-requires
     estimate-room-requires
     segment-room-requires
     room-for-requires

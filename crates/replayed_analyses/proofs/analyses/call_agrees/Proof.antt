@@ -2,7 +2,7 @@
 use borrow.Author.Needs.{needs}
 use mathlib.Core.Path.{ap, _∙_}
 use lib.Ieee.{ofBits}
-use Rattle.replayed_analyses.specs.Outcome.{sameOutcome}
+use Rattle.stored_analyses.specs.Outcome.{sameOutcome}
 use Rattle.replayed_analyses.proofs.analyses.call_agrees.Statement.{statement}
 use Rattle.replayed_analyses.proofs.analyses.call_agrees.Tie as tie
 

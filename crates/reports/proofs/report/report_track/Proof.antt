@@ -2,7 +2,7 @@
 use borrow.Author.Needs.{needs}
 use Rattle.timeline.specs.Estimates.{estimateRows}
 use Rattle.timeline.specs.Segments.{segmentRows}
-use Rattle.windows.specs.Gather.{heard}
+use Rattle.gathering.specs.Gather.{heard}
 use Rattle.segments.proofs.Told.{told-room}
 use Rattle.reports.proofs.Reports.{prepared-span, halted-so, told-so}
 use Rattle.reports.proofs.report.report_track.Statement.{statement}

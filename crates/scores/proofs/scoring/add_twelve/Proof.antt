@@ -6,7 +6,7 @@ use Prim.Native.Nat.{ℕ, _≤_, _-_}
 use lib.ListN.{getD}
 use lib.Ieee.{nan, binary32, add}
 use Rattle.laws.proofs.Front.{Filled, filled-start, filled-more, filled-whole}
-use Rattle.scores.specs.Lanes.{addedAll}
+use Rattle.scores.specs.Modes.{addedAll}
 use Rattle.scores.proofs.scoring.add_twelve.Statement.{statement}
 use Rattle.scores.proofs.scoring.add_twelve.Tie as tie
 

@@ -4,7 +4,7 @@ use mathlib.Core.Path.{refl, _∙_}
 use native.Mathlib.Omega.{arith}
 use Prim.Native.Nat.{_≤_, _-_}
 use Rattle.laws.proofs.Front.{Filled, filled-start, filled-more, filled-whole}
-use Rattle.scores.proofs.Turned.{quarter, scored}
+use Rattle.scores.proofs.Modes.{quarter, scored}
 use Rattle.scores.proofs.scoring.score_keys.Statement.{statement}
 use Rattle.scores.proofs.scoring.score_keys.Tie as tie
 

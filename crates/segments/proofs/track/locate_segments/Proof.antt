@@ -2,7 +2,7 @@
 use borrow.Author.Needs.{needs}
 use Rattle.timeline.specs.Estimates.{estimateRows}
 use Rattle.timeline.specs.Segments.{segmentRows}
-use Rattle.windows.specs.Gather.{heard}
+use Rattle.gathering.specs.Gather.{heard}
 use Rattle.segments.proofs.Locates.{prepared-run, passed-needs, halted, told-all}
 use Rattle.segments.proofs.track.locate_segments.Statement.{statement}
 use Rattle.segments.proofs.track.locate_segments.Tie as tie

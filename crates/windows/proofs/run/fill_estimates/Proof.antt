@@ -3,9 +3,9 @@ use Prim.Native.Nat.{_-_, _<_}
 use native.Mathlib.Omega.{arith}
 use borrow.Author.Needs.{needs}
 use lib.Ieee.{ofBits}
-use Rattle.windows.specs.Gather.{heard}
+use Rattle.gathering.specs.Gather.{heard}
 use Rattle.timeline.specs.Estimates.{estimateRows}
-use Rattle.windows.proofs.Known.{known-own}
+use Rattle.gathering.proofs.Known.{known-own}
 use Rattle.windows.proofs.Runs.{Reached, reached-known, reached-held, reached-start, reached-again, reached-stuck, reached-end}
 use Rattle.windows.proofs.run.fill_estimates.Statement.{statement}
 use Rattle.windows.proofs.run.fill_estimates.Tie as tie

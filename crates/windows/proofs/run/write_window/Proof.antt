@@ -8,12 +8,12 @@ use borrow.Author.Needs.{needs}
 use lib.Dec.{eqb}
 use lib.Ieee.{Float, binary64, add, ofBits}
 use Rattle.laws.specs.Convert.{half}
-use Rattle.windows.specs.Gather.{Heard, heard, gatheredOf}
+use Rattle.gathering.specs.Gather.{Heard, heard, gatheredOf}
 use Rattle.timeline.specs.Estimates.{EstimateRows, putEstimate}
 use Rattle.windows.specs.Estimates.{estimateOf}
 use Rattle.windows.specs.Run.{gatheredFrom, estimateFrom, silent, Written, wrote, windowWritten}
 use Rattle.windows.specs.declared.span.Span.{Span}
-use Rattle.windows.specs.declared.gather.Gathered.{Gathered}
+use Rattle.gathering.specs.declared.gather.Gathered.{Gathered}
 use Rattle.timeline.specs.declared.estimate.Estimate.{Estimate}
 use Rattle.windows.proofs.run.write_window.Statement.{statement}
 use Rattle.windows.proofs.run.write_window.Tie as tie

@@ -1,0 +1,30 @@
+-- What `ulyptesh_write_card` promises, as one definition of what it is given. Definitions only.
+use mathlib.Core.List.{List, [], _∷_}
+use Prim.Native.Nat.{ℕ}
+use lib.Dec.{ltb}
+use lib.ListN.{length}
+use lib.Ieee.{Float}
+use Rattle.laws.specs.Front.{front}
+use Rattle.laws.specs.Table.{_gives_, firstOf}
+use Rattle.card_writer.specs.declared.analysed.Overall.{Overall}
+use Rattle.card.specs.Layout.{layout1}
+use Rattle.card_writer.specs.Form.{cardBytes}
+use Rattle.card_writer.specs.Analysed.{Analysis, meaningOf, unwritable}
+use Rattle.written.specs.Outcome.{Outcome, answered, outcome}
+
+-- what is said of the whole track
+abbrev pub overall : ℕ → ℕ → ℕ → Float → Float → Overall
+overall key dsp alternate coverage confidence = record { key = key; dsp = dsp; alternate = alternate; coverage = coverage; confidence = confidence }
+
+-- the card of an analysis
+abbrev pub cardOf : Analysis → List ℕ
+cardOf a = cardBytes layout1 (meaningOf layout1 a)
+
+-- 11 for an analysis that no card holds and 12 for too few bytes leave the bytes as they are; else the card stands at their front
+abbrev pub cardCall : Analysis → List ℕ → Outcome
+cardCall a bytes =
+    firstOf
+    ((unwritable layout1 a gives outcome (answered 11 0) bytes)
+    ∷ (ltb (length bytes) (length (cardOf a)) gives outcome (answered 12 0) bytes)
+    ∷ [])
+    (outcome (answered 0 (length (cardOf a))) (front (cardOf a) bytes))

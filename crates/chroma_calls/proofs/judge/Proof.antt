@@ -1,0 +1,21 @@
+-- The callees' definitions, put together.
+use borrow.Author.Needs.{needs}
+use Rattle.chroma_calls.specs.FromChroma.{judged}
+use Rattle.chroma_calls.proofs.judge.Statement.{statement}
+use Rattle.chroma_calls.proofs.judge.Tie as tie
+
+key-number-requires : tie.Need-key-number-requires
+key-number-requires c κs = search needs
+
+cast-t6 : tie.Need-cast-t6
+cast-t6 c = search needs
+
+key-confidence-requires : tie.Need-key-confidence-requires
+key-confidence-requires c κs = search needs
+
+returns : tie.Need-returns
+unfolding judged
+returns c = rw (c .key-confidence .ensures, c .before .key-number .ensures)
+
+pub judge-spec : {M : Type 1} → statement M
+judge-spec = tie.close (tie.spec key-number-requires cast-t6 key-confidence-requires returns)

@@ -1,0 +1,42 @@
+-- The only refusal, or the callees' definitions, put together.
+use borrow.Author.Needs.{needs}
+use mathlib.Core.Path.{ap, _∙_}
+use lib.ListN.{length}
+use Rattle.scores.proofs.Counted.{scores-count}
+use Rattle.chroma_calls.proofs.Outcomes.{unfit, twelve, room, scored}
+use Rattle.chroma_calls.proofs.scores_of_chroma.Statement.{statement}
+use Rattle.chroma_calls.proofs.scores_of_chroma.Tie as tie
+
+returns : tie.Need-returns
+returns c = unfit (c .before .before .before .args .chroma .now) _ (c .if1 .taken)
+
+twelve-values-requires : tie.Need-twelve-values-requires
+twelve-values-requires c κs = twelve (c .before .before .before .args .chroma .now) (c .before .before .before .args .out .now) (c .if1 .left)
+
+score-keys-requires : tie.Need-score-keys-requires
+score-keys-requires c κs = search needs
+
+write-scores-requires : tie.Need-write-scores-requires
+write-scores-requires c κs =
+    let test = c .before .before .before .before .before in
+    (ap length (c .before .before .score-keys .ensures) ∙ scores-count _, room (test .before .before .before .args .chroma .now) (test .before .before .before .args .out .now) (test .if1 .left))
+
+same-length : tie.Need-same-length
+same-length c = search needs
+
+returns-2 : tie.Need-returns-2
+returns-2 c =
+    let write = c .before .before in
+    let call = write .before .before .before .before .before in
+    scored (call .before .before .before .before .args .chroma .now) _ (call .before .if1 .left) (call .twelve-values .ensures) (write .before .before .before .score-keys .ensures) (write .write-scores .ensures)
+
+pub scores-of-chroma-spec : {M : Type 1} → statement M
+scores-of-chroma-spec =
+    tie.close
+    (tie.spec
+    returns
+    twelve-values-requires
+    score-keys-requires
+    write-scores-requires
+    same-length
+    returns-2)

@@ -1,0 +1,3 @@
+-- How rows move down, entry by entry.
+pub mod Moves
+mod Gaps

@@ -1,0 +1,2 @@
+// Two neighbouring rows of segments made one, and the gap behind them closed.
+pub mod gap;

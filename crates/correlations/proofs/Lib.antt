@@ -1,0 +1,2 @@
+-- That the shared engine is the plain correlation.
+pub mod Turned

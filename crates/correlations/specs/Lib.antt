@@ -1,0 +1,3 @@
+pub mod Correlation
+pub mod Distances
+pub mod Lanes

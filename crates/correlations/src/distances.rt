@@ -1,0 +1,45 @@
+// Distances of twelve values from their mean, what all correlations with them share.
+ghost use mathlib.Core.Path.{_≡_};
+ghost use Rattle.correlations.specs.Distances.{distancesOf, energyOf, wheelOf};
+use numbers::twelve::sum_of_twelve;
+
+// The distances from the mean.
+pub fn distances(values: &[f32; 12]) -> [f32; 12]
+    ensures { λ r. ⌜ r ≡ distancesOf (now (values .entry)) ⌝ }
+{
+    let mean = sum_of_twelve(values) / 12.0;
+    let mut away = [0.0; 12];
+    let mut i = 0;
+    while i < 12 {
+        away[i] = values[i] - mean;
+        i += 1;
+    }
+    away
+}
+
+// The sum of the distances' squares.
+pub fn energy(away: &[f32; 12]) -> f32
+    ensures { λ r. ⌜ r ≡ energyOf (now (away .entry)) ⌝ }
+{
+    let mut sum = 0.0;
+    let mut i = 0;
+    while i < 12 {
+        sum += away[i] * away[i];
+        i += 1;
+    }
+    sum
+}
+
+// The distances from the last value down to the first, and down again: each rotation in one piece.
+pub fn wheel(values: &[f32; 12]) -> [f32; 23]
+    ensures { λ r. ⌜ r ≡ wheelOf (now (values .entry)) ⌝ }
+{
+    let away = distances(values);
+    let mut wheel = [0.0; 23];
+    let mut j = 0;
+    while j < 23 {
+        wheel[j] = away[(23 - j) % 12];
+        j += 1;
+    }
+    wheel
+}

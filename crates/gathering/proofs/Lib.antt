@@ -1,0 +1,2 @@
+-- What is known of the frames ahead of a window.
+pub mod Known

@@ -1,0 +1,2 @@
+pub mod Gather
+pub mod Ahead

@@ -1,0 +1,3 @@
+// The loud frames of a window: which they are, and their chromas summed.
+pub mod ahead;
+pub mod gather;

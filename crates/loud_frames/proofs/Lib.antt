@@ -1,0 +1,2 @@
+-- A law for each way out.
+mod Louds

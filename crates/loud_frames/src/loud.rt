@@ -1,0 +1,56 @@
+// From the loud frames in their rows to the answer.
+ghost use mathlib.Core.Path.{_≡_};
+ghost use Rattle.rooms.specs.Lent.{lentAll};
+ghost use Rattle.loud_frames.specs.Loud.{outcome, framesAnalysed, Stocked};
+use calls::Settings;
+use onsets::weighted::weighted_medians;
+use reports::report::report_track;
+use verdicts::answer::AnalyseResult;
+use verdicts::answer::keyless;
+use verdicts::verdict::is_faint;
+use verdicts::verdict::judge_medians;
+
+// The empty analysis where no frame is loud or the medians are faint; else what the medians tell.
+pub fn analyse_frames(
+    settings: Settings,
+    samples: usize,
+    frames: usize,
+    centres: &[f64],
+    values: &[[f32; 12]],
+    energies: &[f32],
+    work: &mut [f32],
+    middles: &mut [f64],
+    numbers: &mut [u8],
+    certainties: &mut [f32],
+    starts: &mut [f64],
+    ends: &mut [f64],
+    keys: &mut [u8],
+    confidences: &mut [f32],
+) -> AnalyseResult
+    requires { ⌜ Stocked settings samples frames (lentAll centres values energies work middles numbers certainties starts ends keys confidences) ⌝ }
+    ensures { λ r. ⌜ outcome r (lentAll (centres .entry) (values .entry) (energies .entry) (work .exit) (middles .exit) (numbers .exit) (certainties .exit) (starts .exit) (ends .exit) (keys .exit) (confidences .exit)) ≡ framesAnalysed settings samples frames (lentAll (centres .entry) (values .entry) (energies .entry) (work .entry) (middles .entry) (numbers .entry) (certainties .entry) (starts .entry) (ends .entry) (keys .entry) (confidences .entry)) ⌝ }
+{
+    if frames == 0 {
+        return keyless(0, 0, 0, 0);
+    }
+    let medians = weighted_medians(values, energies, frames, work);
+    if is_faint(&medians) {
+        return keyless(0, 0, frames, 0);
+    }
+    let verdict = judge_medians(&medians, values, frames);
+    report_track(
+        settings,
+        samples,
+        verdict,
+        frames,
+        centres,
+        values,
+        middles,
+        numbers,
+        certainties,
+        starts,
+        ends,
+        keys,
+        confidences,
+    )
+}

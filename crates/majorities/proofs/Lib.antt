@@ -1,0 +1,2 @@
+-- What is known while votes are counted.
+mod Voting

@@ -1,0 +1,2 @@
+// The key that most of a group tells.
+pub mod majority;

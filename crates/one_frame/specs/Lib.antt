@@ -1,0 +1,2 @@
+pub mod Blend
+pub mod Frame

@@ -1,0 +1,75 @@
+// All frame positions in turn, and the analysis of the loud ones where each is finite.
+ghost use mathlib.Core.Path.{_≡_};
+ghost use Rattle.calls.specs.Call.{given};
+ghost use Rattle.rooms.specs.Lent.{lentAll};
+ghost use Rattle.loud_frames.specs.Loud.{outcome};
+ghost use Rattle.positions.specs.Positions.{positionsAnalysed, Supplied};
+use calls::Settings;
+use calls::SheetHead;
+use frames::run::Filled;
+use frames::run::fill_rows;
+use loud_frames::loud::analyse_frames;
+use verdicts::answer::AnalyseResult;
+use verdicts::answer::keyless;
+
+// All frame positions in turn, and the analysis of the loud ones where each is finite.
+pub fn analyse_positions(
+    settings: Settings,
+    head: SheetHead,
+    samples: &[f32],
+    window: &[f32],
+    coefficients: &[f32],
+    weights: &[f32],
+    lengths: &[u32],
+    qcoefficients: &[f32],
+    qwindows: &[f32],
+    positions: usize,
+    centres: &mut [f64],
+    values: &mut [[f32; 12]],
+    energies: &mut [f32],
+    work: &mut [f32],
+    middles: &mut [f64],
+    numbers: &mut [u8],
+    certainties: &mut [f32],
+    starts: &mut [f64],
+    ends: &mut [f64],
+    keys: &mut [u8],
+    confidences: &mut [f32],
+) -> AnalyseResult
+    requires { ⌜ Supplied (given settings head samples window coefficients weights lengths qcoefficients qwindows) positions (lentAll centres values energies work middles numbers certainties starts ends keys confidences) ⌝ }
+    ensures { λ r. ⌜ outcome r (lentAll (centres .exit) (values .exit) (energies .exit) (work .exit) (middles .exit) (numbers .exit) (certainties .exit) (starts .exit) (ends .exit) (keys .exit) (confidences .exit)) ≡ positionsAnalysed (given settings head (samples .entry) (window .entry) (coefficients .entry) (weights .entry) (lengths .entry) (qcoefficients .entry) (qwindows .entry)) positions (lentAll (centres .entry) (values .entry) (energies .entry) (work .entry) (middles .entry) (numbers .entry) (certainties .entry) (starts .entry) (ends .entry) (keys .entry) (confidences .entry)) ⌝ }
+{
+    match fill_rows(
+        settings,
+        head,
+        samples,
+        window,
+        coefficients,
+        weights,
+        lengths,
+        qcoefficients,
+        qwindows,
+        positions,
+        centres,
+        values,
+        energies,
+    ) {
+        Filled::NotFinite(position, frames) => keyless(9, position, frames, 0),
+        Filled::All(frames) => analyse_frames(
+            settings,
+            samples.len(),
+            frames,
+            centres,
+            values,
+            energies,
+            work,
+            middles,
+            numbers,
+            certainties,
+            starts,
+            ends,
+            keys,
+            confidences,
+        ),
+    }
+}

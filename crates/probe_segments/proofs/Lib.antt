@@ -1,0 +1,2 @@
+-- What the probes' proofs share, on plain values.
+mod Segmenting

@@ -1,0 +1,115 @@
+-- What the guards of the segments' probes tell, and what is answered on either side of them.
+use mathlib.Core.Path.{_≡_, sym, ap, subst, _∙_}
+use mathlib.Core.Bool.{Bool, true, false, not}
+use mathlib.Core.List.{List, [], _∷_}
+use Prim.Native.Nat.{ℕ, min}
+use native.Mathlib.Omega.{arith}
+use borrow.Author.Tests.{ltb-true, leb-true, eqb-true, not-true, not-false}
+use lib.Dec.{T, eqb, ltb, leb, ltb→lt}
+use lib.ListN.{length, getD}
+use lib.Ieee.{Float}
+use Rattle.laws.proofs.Every.{each}
+use Rattle.laws.proofs.Table.{each-of}
+use Rattle.calls.specs.declared.Settings.{Settings}
+use Rattle.timeline.specs.Estimates.{EstimateRows, estimatesIn, estimateRoom, Numbered, Found}
+use Rattle.timeline.specs.Segments.{SegmentRows, segmentsIn, segmentRoom, Room, Filled, filled}
+use Rattle.timeline.proofs.Rooms.{room-within, estimates-within}
+use Rattle.windows.specs.Span.{spanOf, rowsAsked, windowsOf}
+use Rattle.windows.specs.declared.span.Span.{Span}
+use Rattle.windows.proofs.Spans.{windows-asked}
+use Rattle.shortening.specs.Shorten.{settled}
+use Rattle.segments.specs.Fill.{filledOf}
+use Rattle.segments.specs.Track.{Outcome, outcome, locatedOf, Prepared}
+use Rattle.segments.specs.declared.fill.Track.{Track}
+use Rattle.segments.specs.declared.track.Located.{Located}
+use Rattle.probe_segments.specs.Segments.{isNumber, allNumbers, probedShorten, cutFits, probedCut, heardIn, fitsIn, counted, countedBy, probed, probedSegments}
+use Rattle.probe_segments.specs.declared.segments_of_frames.ProbedSegments.{ProbedSegments}
+
+numbered : (keys : List ℕ) (count : ℕ) → allNumbers keys count ≡ true → Numbered keys count
+numbered keys count e i h = ltb→lt (getD keys i 0) 24 (each (isNumber keys) count (subst T (sym e) tt) i h)
+
+-- what a guard's flag says of what it stands for
+failed : {flag test : Bool} → flag ≡ test → not flag ≡ true → test ≡ false
+failed {flag} e t = sym e ∙ not-true flag t
+
+passed : {flag test : Bool} → flag ≡ test → not flag ≡ false → test ≡ true
+passed {flag} e t = sym e ∙ not-false flag t
+
+module _ (least : Float) (rows : SegmentRows) {count : ℕ} {flag : Bool} (all : count ≡ segmentRoom rows) (told : flag ≡ allNumbers (rows .keys) count) where
+  known : {b : Bool} → allNumbers (rows .keys) count ≡ b → allNumbers (rows .keys) (segmentRoom rows) ≡ b
+  known e = ap (allNumbers (rows .keys)) (sym all) ∙ e
+
+  pub not-shortened : not flag ≡ true → filled 0 rows ≡ probedShorten least rows
+  not-shortened t = rw (known (failed told t))
+
+  pub shorten-needs : not flag ≡ false → Room rows count × Numbered (rows .keys) count
+  shorten-needs t = (room-within rows count (omega (arith, all)), numbered (rows .keys) count (passed told t))
+
+  pub shortened : {out : Filled} → not flag ≡ false → out ≡ settled least (segmentsIn rows count) rows → out ≡ probedShorten least rows
+  shortened t e = e ∙ ap (λ (n : ℕ). settled least (segmentsIn rows n) rows) all ∙ rw (known (passed told t))
+
+module _ (t : Track) (e : EstimateRows) (rows : SegmentRows) {room : ℕ} {fit : Bool} (all : room ≡ segmentRoom rows) (told : fit ≡ cutFits (length (e .centres)) (length (e .keys)) (length (e .confidences)) room) where
+  abbrev tests : ℕ → Bool
+  tests lent = cutFits (length (e .centres)) (length (e .keys)) (length (e .confidences)) lent
+
+  fitting : {b : Bool} → tests room ≡ b → tests (segmentRoom rows) ≡ b
+  fitting p = ap tests (sym all) ∙ p
+
+  pub not-fit : not fit ≡ true → filled 0 rows ≡ probedCut t e rows
+  not-fit f = rw (fitting (failed told f))
+
+  module _ {flag : Bool} (good : not fit ≡ false) (numbers : flag ≡ allNumbers (e .keys) (length (e .keys))) where
+    pub not-numbered : not flag ≡ true → filled 0 rows ≡ probedCut t e rows
+    not-numbered f = rw (fitting (passed told good), failed numbers f)
+
+    pub cut-needs : not flag ≡ false → Found e (length (e .keys)) × Room rows (length (e .keys)) × Room rows 1
+    cut-needs f =
+        let found = length (e .keys) in
+        let test = each-of (eqb (length (e .centres)) found ∷ eqb (length (e .confidences)) found ∷ leb found room ∷ leb 1 room ∷ ltb found 4_294_967_296 ∷ []) (passed told good) in
+        let centres = eqb-true (length (e .centres)) found (test 0) in
+        let confidences = eqb-true (length (e .confidences)) found (test 1) in
+        let within = leb-true found room (test 2) in
+        let one = leb-true 1 room (test 3) in
+        let few = ltb-true found 4_294_967_296 (test 4) in (
+          record { centres = omega (arith, centres); keys = omega arith; confidences = omega (arith, confidences); numbered = numbered (e .keys) found (passed numbers f); few = few },
+          room-within rows found (omega (arith, within, all)),
+          room-within rows 1 (omega (arith, one, all)),
+        )
+
+    pub cut-so : {out : Filled} {track : Track} → not flag ≡ false → track ≡ t → out ≡ filledOf track (estimatesIn e (length (e .keys))) rows → out ≡ probedCut t e rows
+    cut-so f same out = out ∙ ap (λ (x : Track). filledOf x (estimatesIn e (length (e .keys))) rows) same ∙ rw (fitting (passed told good), passed numbers f)
+
+module _ (s : Settings) (samples : ℕ) (t : Track) (centres : List Float) (values : List (List Float)) (e : EstimateRows) (rows : SegmentRows) {span : Span} {asked estimates room : ℕ} {flag : Bool} (spans : span ≡ spanOf s samples) (asks : asked ≡ rowsAsked span) (lent : estimates ≡ estimateRoom e) (left : room ≡ segmentRoom rows) (told : flag ≡ fitsIn asked estimates room) where
+  abbrev guard : Bool
+  guard = fitsIn (rowsAsked (spanOf s samples)) (estimateRoom e) (segmentRoom rows)
+
+  guarded : {b : Bool} → fitsIn asked estimates room ≡ b → guard ≡ b
+  guarded p =
+      let at : rowsAsked (spanOf s samples) ≡ asked = ap rowsAsked (sym spans) ∙ sym asks in
+      rw (at, ← lent, ← left) p
+
+  pub little-room : not flag ≡ true → probed (counted 8 0 0) e rows ≡ probedSegments s samples t (heardIn centres values) e rows
+  little-room f = rw (guarded (failed told f))
+
+  pub locate-needs : {frames : ℕ} → not flag ≡ false → frames ≡ min (length centres) (length values) → Prepared span (record { frames = frames; centres = centres; values = values }) e rows
+  locate-needs {frames} f many =
+      let test = each-of (leb asked estimates ∷ leb asked room ∷ leb 1 room ∷ []) (passed told f) in
+      let first = leb-true asked estimates (test 0) in
+      let second = leb-true asked room (test 1) in
+      let one = leb-true 1 room (test 2) in
+      let few = windows-asked span in
+      let there = estimates-within e (windowsOf span) (omega (arith, first, few, asks, lent)) in
+      record {
+        ready = record { timed = omega (arith, many); valued = omega (arith, many); centres = there .0; keys = there .1; confidences = there .2 };
+        room = room-within rows (windowsOf span) (omega (arith, second, few, asks, left));
+        one = room-within rows 1 (omega (arith, one, left));
+      }
+
+  pub located-so : {frames : ℕ} {track : Track} {located : Located} {answer : ProbedSegments} {e' : EstimateRows} {rows' : SegmentRows} → not flag ≡ false → frames ≡ min (length centres) (length values) → track ≡ t
+      → outcome located e' rows' ≡ locatedOf span track (record { frames = frames; centres = centres; values = values }) e rows → answer ≡ countedBy located → probed answer e' rows' ≡ probedSegments s samples t (heardIn centres values) e rows
+  located-so {frames} {track} {located} {answer} {e'} {rows'} f many same found counts =
+      let here : outcome located e' rows' ≡ locatedOf (spanOf s samples) t (heardIn centres values) e rows = found
+      ∙ ap (λ (x : Span). locatedOf x track (record { frames = frames; centres = centres; values = values }) e rows) spans
+      ∙ ap (λ (x : Track). locatedOf (spanOf s samples) x (record { frames = frames; centres = centres; values = values }) e rows) same
+      ∙ ap (λ (n : ℕ). locatedOf (spanOf s samples) t (record { frames = n; centres = centres; values = values }) e rows) many in
+      ap (λ (a : ProbedSegments). probed a e' rows') counts ∙ ap (λ (o : Outcome). probed (countedBy (o .answer)) (o .estimates) (o .segments)) here ∙ rw (guarded (passed told f))

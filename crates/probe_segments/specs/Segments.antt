@@ -1,0 +1,106 @@
+-- What the probes of segments answer and leave, for rows of any length and any numbers in them. Definitions only.
+use Prim.Native.Nat.{ℕ, min}
+use mathlib.Core.Bool.{Bool, cond}
+use mathlib.Core.List.{List, [], _∷_}
+use lib.Dec.{eqb, ltb, leb}
+use lib.ListN.{length, getD}
+use lib.Ieee.{Float}
+use Rattle.laws.specs.Every.{every}
+use Rattle.laws.specs.Table.{allOf}
+use Rattle.keys.specs.Numbers.{keyNumber, keyAt}
+use Rattle.calls.specs.declared.Settings.{Settings}
+use Rattle.timeline.specs.Estimates.{EstimateRows, estimatesIn, estimateRoom}
+use Rattle.timeline.specs.Segments.{SegmentRows, segmentsIn, segmentRoom, Filled, filled}
+use Rattle.windows.specs.Span.{spanOf, rowsAsked}
+use Rattle.gathering.specs.Gather.{Heard, heard}
+use Rattle.majorities.specs.Majority.{majorityOf}
+use Rattle.shortening.specs.Shorten.{settled}
+use Rattle.segments.specs.Fill.{filledOf}
+use Rattle.segments.specs.Track.{locatedOf}
+use Rattle.segments.specs.declared.fill.Track.{Track}
+use Rattle.segments.specs.declared.track.Located.{Located}
+use Rattle.segments.specs.declared.track.Located.the-variants.{Told, Halted}
+use Rattle.longest.specs.Longest.{reportedOf}
+use Rattle.alternates.specs.Alternate.{alternateOf, alternateNumber, alternateCoverage}
+use Rattle.alternates.specs.declared.alternate.Alternate.{Alternate}
+use Rattle.probe_segments.specs.declared.segments_of_rows.ProbedAlternate.{ProbedAlternate}
+use Rattle.probe_segments.specs.declared.segments_of_frames.ProbedSegments.{ProbedSegments}
+
+-- the majority, and 0 where there are no numbers
+abbrev pub probedMajority : List ℕ → ℕ
+probedMajority numbers = cond (eqb (length numbers) 0) 0 (majorityOf numbers)
+
+-- number i is a key's
+abbrev pub isNumber : List ℕ → ℕ → Bool
+isNumber keys i = ltb (getD keys i 0) 24
+
+-- each of the first keys is a key's number
+abbrev pub allNumbers : List ℕ → ℕ → Bool
+allNumbers keys count = every (isNumber keys) count
+
+-- all rows shortened; nothing where a key is above 23
+abbrev pub probedShorten : Float → SegmentRows → Filled
+probedShorten least rows = let count = segmentRoom rows in cond (allNumbers (rows .keys) count) (settled least (segmentsIn rows count) rows) (filled 0 rows)
+
+-- the reported key of all rows
+abbrev pub probedReported : ℕ → SegmentRows → ℕ
+probedReported classified rows = keyNumber (reportedOf (keyAt classified) (segmentsIn rows (segmentRoom rows)))
+
+-- both parts of an alternate's answer
+abbrev pub probedAnswer : Alternate → ProbedAlternate
+probedAnswer a = record { key = alternateNumber a; coverage = alternateCoverage a }
+
+-- the alternate key of all rows
+abbrev pub probedAlternate : ℕ → Float → SegmentRows → ProbedAlternate
+probedAlternate reported threshold rows = probedAnswer (alternateOf (keyNumber (keyAt reported)) threshold (segmentsIn rows (segmentRoom rows)))
+
+-- a track, from its parts and its key's number
+abbrev pub trackOf : Float → Float → Float → ℕ → Float → Track
+trackOf threshold minimum duration key confidence = record { threshold = threshold; minimum = minimum; duration = duration; key = keyAt key; confidence = confidence }
+
+-- lists of estimates of these lengths are equally long, not endless, and there is room for their segments
+abbrev pub cutFits : ℕ → ℕ → ℕ → ℕ → Bool
+cutFits middles numbers certainties room = allOf (eqb middles numbers ∷ eqb certainties numbers ∷ leb numbers room ∷ leb 1 room ∷ ltb numbers 4_294_967_296 ∷ [])
+
+-- the segments of all estimates; nothing where they do not fit or a key is above 23
+abbrev pub probedCut : Track → EstimateRows → SegmentRows → Filled
+probedCut t e rows =
+    let found = length (e .keys) in
+    cond (cutFits (length (e .centres)) found (length (e .confidences)) (segmentRoom rows)) (cond (allNumbers (e .keys) found) (filledOf t (estimatesIn e found) rows) (filled 0 rows)) (filled 0 rows)
+
+-- the frames that both lists have
+abbrev pub heardIn : List Float → List (List Float) → Heard
+heardIn centres values = heard (min (length centres) (length values)) centres values
+
+-- the track that the settings tell of, with its own key
+abbrev pub probedTrack : Settings → ℕ → ℕ → Float → Track
+probedTrack s samples key confidence = trackOf (s .«segment_confidence_threshold») (s .«minimum_segment_seconds») (spanOf s samples .duration) key confidence
+
+-- both kinds of rows have the room that the windows ask for
+abbrev pub fitsIn : ℕ → ℕ → ℕ → Bool
+fitsIn asked estimates segments = allOf (leb asked estimates ∷ leb asked segments ∷ leb 1 segments ∷ [])
+
+-- the counts with an outcome: 0, 8 for too little room, 10 for a start that did not grow
+abbrev pub counted : ℕ → ℕ → ℕ → ProbedSegments
+counted outcome estimates segments = record { outcome = outcome; estimates = estimates; segments = segments }
+
+-- by what was located
+abbrev pub countedBy : Located → ProbedSegments
+countedBy (Told estimates segments) = counted 0 estimates segments
+countedBy (Halted estimates) = counted 10 estimates 0
+
+-- what is answered, and the rows that are left
+pub record Probed : Type 0 where
+  pub answer : ProbedSegments
+  pub estimates : EstimateRows
+  pub segments : SegmentRows
+
+-- the same, from its parts
+abbrev pub probed : ProbedSegments → EstimateRows → SegmentRows → Probed
+probed answer estimates segments = record { answer = answer; estimates = estimates; segments = segments }
+
+-- the whole way from frames to segments, where there is room
+abbrev pub probedSegments : Settings → ℕ → Track → Heard → EstimateRows → SegmentRows → Probed
+probedSegments s samples t h e rows =
+    let found = locatedOf (spanOf s samples) t h e rows in
+    cond (fitsIn (rowsAsked (spanOf s samples)) (estimateRoom e) (segmentRoom rows)) (probed (countedBy (found .answer)) (found .estimates) (found .segments)) (probed (counted 8 0 0) e rows)

@@ -1,0 +1,2 @@
+// Where a window starts a new group of estimates, and the border between two windows.
+pub mod split;

@@ -1,0 +1,39 @@
+-- Two outcomes that the promise of an exported call allows for one input are equal: a statement for each call.
+use mathlib.Core.Path.{_≡_}
+use mathlib.Core.List.{List}
+use Prim.Native.Nat.{ℕ}
+use lib.Ieee.{Float}
+use Rattle.calls.specs.Call.{Call}
+use Rattle.calls.specs.Rows.{Rows}
+use Rattle.rooms.specs.Lent.{Lent}
+use Rattle.written.specs.Outcome as bytewise
+use Rattle.name_call.specs.KeyNames.{keyNameOf}
+use Rattle.chroma_calls.specs.declared.KeyResult.{KeyResult}
+use Rattle.chroma_calls.specs.FromChroma.{ScoresOutcome, scoresCall, keyCall}
+use Rattle.frames_call.specs.FramesOnly.{FramesOutcome, framesOnly}
+use Rattle.card_writer.specs.Analysed.{Analysis}
+use Rattle.card_call.specs.Cards.{cardCall}
+use Rattle.loud_frames.specs.Loud.{Outcome}
+use Rattle.ulyptesh.specs.Analysis.{Promised}
+
+-- what a promise says of an outcome, it says of one alone
+abbrev pub OneOutcome : {O : Type 0} → (O → Type 0) → Type 0
+OneOutcome {O} promise = (a b : O) → promise a → promise b → a ≡ b
+
+abbrev pub ScoresUnique : Type 0
+ScoresUnique = (chroma places : List Float) → OneOutcome (λ (o : ScoresOutcome). o ≡ scoresCall chroma places)
+
+abbrev pub KeyUnique : Type 0
+KeyUnique = (chroma : List Float) → OneOutcome (λ (o : KeyResult). o ≡ keyCall chroma)
+
+abbrev pub KeyNameUnique : Type 0
+KeyNameUnique = (number : ℕ) (bytes : List ℕ) → OneOutcome (λ (o : bytewise.Outcome). o ≡ keyNameOf number bytes)
+
+abbrev pub CardUnique : Type 0
+CardUnique = (analysis : Analysis) (bytes : List ℕ) → OneOutcome (λ (o : bytewise.Outcome). o ≡ cardCall analysis bytes)
+
+abbrev pub FramesUnique : Type 0
+FramesUnique = (c : Call) (lent : Rows) → OneOutcome (λ (o : FramesOutcome). o ≡ framesOnly c lent)
+
+abbrev pub AnalyseUnique : Type 0
+AnalyseUnique = (c : Call) (lent : Lent) → OneOutcome (Promised c lent)

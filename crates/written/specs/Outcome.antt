@@ -1,0 +1,17 @@
+-- The outcome of a call that writes into lent bytes. Definitions only.
+use mathlib.Core.List.{List}
+use Prim.Native.Nat.{ℕ}
+use Rattle.written.specs.declared.Written.{Written}
+
+-- the call's answer: 01's number, or 0, and how many bytes were written
+abbrev pub answered : ℕ → ℕ → Written
+answered refusal count = record { refusal = refusal; length = count }
+
+-- what the call answers, and what it leaves in the lent bytes
+pub record Outcome : Type 0 where
+  pub answer : Written
+  pub bytes : List ℕ
+
+-- both together
+abbrev pub outcome : Written → List ℕ → Outcome
+outcome answer bytes = record { answer = answer; bytes = bytes }
