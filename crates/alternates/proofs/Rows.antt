@@ -1,4 +1,4 @@
--- The segments in lent rows, read one by one: entry i of the list is row i, and a loop over the rows is one over the list.
+-- What was read from a row of segments, in the words of the alternate key.
 use mathlib.Core.Path.{_≡_, sym, ap, _∙_}
 use mathlib.Core.Bool.{Bool, not, _&&_}
 use Prim.Native.Nat.{ℕ, _+_, _<_}

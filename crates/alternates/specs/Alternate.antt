@@ -11,7 +11,6 @@ use Rattle.laws.specs.Values.{plusZero, minusZero, epsilon}
 use Rattle.laws.specs.Pick.{maximumNumber}
 use Rattle.laws.specs.Convert.{converted}
 use Rattle.laws.specs.Leader.{Standing, nobody, leads, leaderOf}
-use Rattle.keys.specs.declared.Key.{Key}
 use Rattle.keys.specs.Numbers.{keyNumber}
 use Rattle.timeline.specs.Segments.{seconds, segmentAt}
 use Rattle.timeline.specs.declared.segment.Segment.{Segment}

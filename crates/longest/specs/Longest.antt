@@ -5,7 +5,6 @@ use Prim.Native.Nat.{ℕ, _<_}
 use mathlib.Core.List.{List}
 use lib.ListN.{length}
 use lib.Dec.{T, ltb}
-use lib.Ieee.{binary64, fits}
 use Rattle.laws.specs.Turns.{turns}
 use Rattle.laws.specs.Order.{totalOrder}
 use Rattle.keys.specs.declared.Key.{Key}

@@ -7,7 +7,9 @@ use super::key_lime::expose::{Estimate, estimate_segments, estimates, key_from_i
 use super::segment_calls::{Asked, config, duration, frames, is_brief, rows_asked};
 use super::segment_lists::{put_joined, untouched_segments};
 use super::segment_tracks::Tracks;
-use ulyptesh::probe::segments::{Cutting, ProbedSegments, START_DID_NOT_GROW, TOO_LITTLE_ROOM, Track, segments};
+use ulyptesh::probe::segments::{
+    Cutting, ProbedSegments, START_DID_NOT_GROW, TOO_LITTLE_ROOM, Track, segments,
+};
 use ulyptesh::segments::{EstimateRows, SegmentRows};
 
 /// Streams of the seed from here on are the segments'.

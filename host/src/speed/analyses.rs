@@ -7,8 +7,8 @@ use super::segments::segments_of;
 use super::tracks::chords;
 use ulyptesh::analysis::{Buffers, analyse};
 use ulyptesh::frames::FrameRows;
-use ulyptesh::probe::weighted_medians;
 use ulyptesh::probe::segments::Track;
+use ulyptesh::probe::weighted_medians;
 use ulyptesh::sheet::{Settings, Sheet};
 
 const RATES: [u32; 2] = [44_100, 48_000];

@@ -1,6 +1,6 @@
 -- One comparison.
 use mathlib.Core.Path.{refl}
-use lib.Ieee.{lt, ofBits}
+use lib.Ieee.{lt}
 use Rattle.rooms.specs.Room.{hasty}
 use Rattle.rooms.proofs.is_hasty.Statement.{statement}
 use Rattle.rooms.proofs.is_hasty.Tie as tie

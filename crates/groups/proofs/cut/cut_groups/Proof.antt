@@ -1,12 +1,12 @@
 -- Each way through a turn is a law of `Cuts`.
 use borrow.Author.Needs.{needs}
-use mathlib.Core.Path.{_≡_, sym, ap, _∙_}
+use mathlib.Core.Path.{sym, ap, _∙_}
 use Prim.Native.Nat.{ℕ, _-_}
 use native.Mathlib.Omega.{arith}
 use lib.Ieee.{ofBits}
 use Rattle.timeline.specs.Estimates.{estimateRows}
 use Rattle.timeline.specs.Segments.{segmentRows, putSegment}
-use Rattle.groups.specs.Groups.{group, groupIn}
+use Rattle.groups.specs.Groups.{groupIn}
 use Rattle.groups.specs.declared.cut.Group.{Group}
 use Rattle.groups.proofs.Cuts.{Cut, cut-start, cut-on, cut-off, cut-end}
 use Rattle.groups.proofs.cut.cut_groups.Statement.{statement}

@@ -1,6 +1,6 @@
 -- The sum, compared.
 use borrow.Author.Needs.{needs}
-use lib.Ieee.{le, ofBits}
+use lib.Ieee.{ofBits}
 use Rattle.verdicts.specs.Verdict.{faint}
 use Rattle.verdicts.proofs.verdict.is_faint.Statement.{statement}
 use Rattle.verdicts.proofs.verdict.is_faint.Tie as tie
