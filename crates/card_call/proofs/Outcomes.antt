@@ -11,7 +11,7 @@ use Rattle.written.specs.Outcome.{answered, outcome}
 use Rattle.card.specs.declared.layout.Layout.{Layout}
 use Rattle.card.specs.Layout.{layout1}
 use Rattle.card_writer.specs.Form.{cardBytes, cardSize}
-use Rattle.card_writer.specs.Analysed.{Analysis, meaningOf, unwritable}
+use Rattle.card_judge.specs.Analysed.{Analysis, meaningOf, unwritable}
 use Rattle.card_writer.proofs.Writable.{card-length}
 use Rattle.card_call.specs.Cards.{cardOf, cardCall}
 

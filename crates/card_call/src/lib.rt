@@ -1,13 +1,13 @@
 // The call "write a card", whole.
 ghost use mathlib.Core.Path.{_≡_};
-ghost use Rattle.card_writer.specs.Analysed.{analysis};
+ghost use Rattle.card_judge.specs.Analysed.{analysis};
 ghost use Rattle.card_call.specs.Cards.{overall, cardCall};
 ghost use Rattle.written.specs.Outcome.{outcome};
 use card::layout::layout_1;
-use card_writer::analysed::Overall;
-use card_writer::analysed::is_unwritable;
-use card_writer::analysed::write_card;
+use card_judge::analysed::Overall;
+use card_judge::analysed::is_unwritable;
 use card_writer::fields::card_size;
+use card_writer::write::write_card;
 use written::Written;
 use written::refused;
 

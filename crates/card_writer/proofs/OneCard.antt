@@ -10,14 +10,15 @@ use Rattle.bits.specs.Bits.{bitsOf, numberOf, bitsOfBytes, bytesFor}
 use Rattle.card.specs.Layout.{Meaning, HeaderFits, SegmentFits}
 use Rattle.card_writer.specs.Form.{headerBits, segmentWidth, segmentBits, segmentsBits, cardBits, cardBytes}
 use Rattle.card.specs.Rules.{segmentIn}
-use Rattle.card_writer.specs.Analysed.{Analysis, meaningOf, OneMeaningOneCard}
+use Rattle.card_judge.specs.Analysed.{Analysis, meaningOf}
+use Rattle.card_writer.specs.Writing.{OneMeaningOneCard}
 use Rattle.card.specs.declared.layout.Layout.{Layout}
 use Rattle.card.specs.declared.layout.Header.{Header}
 use Rattle.card.specs.declared.layout.Segment.{Segment}
 use Rattle.bits.proofs.Digits.{length-bits, number-bits}
 use Rattle.card_writer.proofs.Cards.{length-header, length-segment, length-segments}
 use Rattle.bits.proofs.Binary.{Binary, binary-none, binary-append, binary-bits, bits-of-bytes}
-use Rattle.card_writer.proofs.Broken.{writable-good}
+use Rattle.card_judge.proofs.Broken.{writable-good}
 use Rattle.card.proofs.Fits.{CardFits, card-fits}
 
 -- ---- lists that are equal in front and behind

@@ -7,10 +7,10 @@ use lib.ListN.{length}
 use Rattle.card.specs.Layout.{LayoutFits, layout1}
 use Rattle.card_writer.specs.Form.{cardBytes, cardSize}
 use Rattle.card.specs.Rules.{cardBroken}
-use Rattle.card_writer.specs.Analysed.{Analysis, meaningOf, unwritable}
+use Rattle.card_judge.specs.Analysed.{Analysis, meaningOf, unwritable}
 use Rattle.card.specs.declared.layout.Layout.{Layout}
 use Rattle.card_writer.proofs.Cards.{length-card}
-use Rattle.card_writer.proofs.Broken.{segments-count, equal-lengths, writable-lengths, writable-good}
+use Rattle.card_judge.proofs.Broken.{segments-count, equal-lengths, writable-lengths, writable-good}
 use Rattle.card.proofs.Fits.{card-fits, few-segments}
 
 pub record Writable (l : Layout) (a : Analysis) : Type 0 where

@@ -1,3 +1,3 @@
-// Key cards written: an analysis packed, judged and put into lent bytes.
-pub mod analysed;
+// Key cards written: fields joined into numbers, and an analysis that keeps the rules put into lent bytes.
 pub mod fields;
+pub mod write;

@@ -28,7 +28,7 @@ use Rattle.alternates.specs.Alternate.{heard, lasting, totalOf, numberAt, lasts
 use Rattle.bits.specs.Bits.{bitsOf, numberOf, bytesCut}
 use Rattle.card_writer.specs.Form.{segmentsBits, cardBytes}
 use Rattle.card.specs.Rules.{headerBroken, segmentBroken, cardBroken}
-use Rattle.card_writer.specs.Analysed.{unequal, unwritable}
+use Rattle.card_judge.specs.Analysed.{unequal, unwritable}
 use Rattle.sixteen.specs.Rows.{rowA, rowB, rowC, rowD, rowE, rowF, rowG, rowH, rowI, rowJ, rowK, rowL, rowM, rowN, rowO, rowP, rows, RowsHold}
 
 pub rows-hold : RowsHold

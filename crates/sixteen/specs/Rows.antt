@@ -21,7 +21,7 @@ use Rattle.chroma.specs.Shift.{shiftedOf}
 use Rattle.card.specs.Layout.{layout1}
 use Rattle.card_writer.specs.Form.{cardBytes}
 use Rattle.card.specs.Rules.{noKey}
-use Rattle.card_writer.specs.Analysed.{Analysis, analysis, meaningOf, unwritable}
+use Rattle.card_judge.specs.Analysed.{Analysis, analysis, meaningOf, unwritable}
 use Rattle.key_choice.specs.declared.classify.Classified.{Classified}
 use Rattle.key_choice.specs.Classify.{confidenceOf, classifiedOf}
 

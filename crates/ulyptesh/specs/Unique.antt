@@ -11,7 +11,7 @@ use Rattle.name_call.specs.KeyNames.{keyNameOf}
 use Rattle.chroma_calls.specs.declared.KeyResult.{KeyResult}
 use Rattle.chroma_calls.specs.FromChroma.{ScoresOutcome, scoresCall, keyCall}
 use Rattle.frames_call.specs.FramesOnly.{FramesOutcome, framesOnly}
-use Rattle.card_writer.specs.Analysed.{Analysis}
+use Rattle.card_judge.specs.Analysed.{Analysis}
 use Rattle.card_call.specs.Cards.{cardCall}
 use Rattle.loud_frames.specs.Loud.{Outcome}
 use Rattle.ulyptesh.specs.Analysis.{Promised}

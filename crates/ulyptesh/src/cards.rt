@@ -1,6 +1,6 @@
 // The call "write a card".
 ghost use mathlib.Core.Path.{_≡_};
-ghost use Rattle.card_writer.specs.Analysed.{analysis};
+ghost use Rattle.card_judge.specs.Analysed.{analysis};
 ghost use Rattle.written.specs.Outcome.{outcome};
 ghost use Rattle.card_call.specs.Cards.{overall, cardCall};
 use card_call::write_analysed_card;

@@ -6,7 +6,7 @@ use lib.ListN.{length}
 use borrow.Author.Needs.{needs}
 use Rattle.laws.proofs.Table.{told}
 use Rattle.card.specs.Layout.{LayoutFits}
-use Rattle.card_writer.specs.Analysed.{Analysis, analysis, unwritable}
+use Rattle.card_judge.specs.Analysed.{Analysis, analysis, unwritable}
 use Rattle.card_writer.proofs.Writable.{Writable, writable, layout1-fits}
 use Rattle.card_call.specs.Cards.{overall}
 use Rattle.card_call.proofs.Outcomes.{no-card, no-card-room, card-written}

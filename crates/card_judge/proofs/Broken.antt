@@ -10,7 +10,7 @@ use borrow.Author.Tests.{eqb-true, not-false}
 use Rattle.laws.proofs.Table.{none-of}
 use Rattle.laws.proofs.Front.{length-list, getD-list}
 use Rattle.card.specs.Rules.{headerBroken, segmentIn, before, segmentBroken, brokenAt, firstBroken, cardBroken}
-use Rattle.card_writer.specs.Analysed.{Analysis, meaningOf, packedHeader, packedAt, packedSegments, unequal, firstGap, unwritable}
+use Rattle.card_judge.specs.Analysed.{Analysis, meaningOf, packedHeader, packedAt, packedSegments, unequal, firstGap, unwritable}
 use Rattle.card.specs.declared.layout.Layout.{Layout}
 use Rattle.card.specs.declared.layout.Segment.{Segment}
 

@@ -1,7 +1,7 @@
 -- The callees' definitions, put together.
 use borrow.Author.Needs.{needs}
-use Rattle.card_writer.proofs.analysed.packed_part.Statement.{statement}
-use Rattle.card_writer.proofs.analysed.packed_part.Tie as tie
+use Rattle.card_judge.proofs.analysed.packed_part.Statement.{statement}
+use Rattle.card_judge.proofs.analysed.packed_part.Tie as tie
 
 thousandths-requires : tie.Need-thousandths-requires
 thousandths-requires c κs = search needs

@@ -1,7 +1,7 @@
 -- The callees' definitions, put together.
 use borrow.Author.Needs.{needs}
-use Rattle.card_writer.proofs.analysed.packed_header.Statement.{statement}
-use Rattle.card_writer.proofs.analysed.packed_header.Tie as tie
+use Rattle.card_judge.proofs.analysed.packed_header.Statement.{statement}
+use Rattle.card_judge.proofs.analysed.packed_header.Tie as tie
 
 cast-t2 : tie.Need-cast-t2
 cast-t2 c = search needs

@@ -11,9 +11,9 @@ use Rattle.laws.specs.First.{first}
 use Rattle.laws.specs.Values.{plusZero}
 use Rattle.laws.proofs.First.{first-start, first-again, first-out, first-end}
 use Rattle.card.specs.Rules.{before}
-use Rattle.card_writer.specs.Analysed.{gapAt, firstGap}
-use Rattle.card_writer.proofs.analysed.first_gap.Statement.{statement}
-use Rattle.card_writer.proofs.analysed.first_gap.Tie as tie
+use Rattle.card_judge.specs.Analysed.{gapAt, firstGap}
+use Rattle.card_judge.proofs.analysed.first_gap.Statement.{statement}
+use Rattle.card_judge.proofs.analysed.first_gap.Tie as tie
 
 abbrev Inv-loop : tie.InvT-loop
 Inv-loop starts ends count previous₀ i₀ previous i =

@@ -9,16 +9,16 @@ use Rattle.bits.specs.Bits.{bitsOf, HasBits}
 use Rattle.bits.specs.Pens.{bitCount}
 use Rattle.card.specs.Layout.{Meaning, SegmentFits, HeaderFits}
 use Rattle.card_writer.specs.Form.{headerWidth, headerBits, segmentWidth, segmentsBits}
-use Rattle.card_writer.specs.Analysed.{packedAt, packedHeader, meaning}
+use Rattle.card_judge.specs.Analysed.{packedAt, packedHeader, meaning}
 use Rattle.card.specs.declared.layout.Header.{Header}
 use Rattle.bits.specs.declared.pen.Pen.{Pen}
 use Rattle.bits.proofs.Digits.{length-bits}
 use Rattle.bits.proofs.Puts.{put-put}
 use Rattle.card_writer.proofs.Cards.{place-after, card-put}
-use Rattle.card_writer.proofs.Broken.{segments-count, segment-packed}
+use Rattle.card_judge.proofs.Broken.{segments-count, segment-packed}
 use Rattle.card.proofs.Fits.{CardFits, card-fits, few-segments}
-use Rattle.card_writer.proofs.analysed.write_card.Statement.{statement}
-use Rattle.card_writer.proofs.analysed.write_card.Tie as tie
+use Rattle.card_writer.proofs.write.write_card.Statement.{statement}
+use Rattle.card_writer.proofs.write.write_card.Tie as tie
 
 -- the card, and that its numbers fit
 module _ (c : tie.Start) where

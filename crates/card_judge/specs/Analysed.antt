@@ -1,7 +1,6 @@
--- The analysis that a card is written from, in seconds and parts of one, and its meaning in packed numbers. Definitions and the statement.
-use mathlib.Core.Path.{_≡_}
-use Prim.Native.Nat.{ℕ, _+_, _*_, _<_, _≤_}
-use mathlib.Core.Bool.{Bool, false, not}
+-- The analysis that a card is written from, in seconds and parts of one, and its meaning in packed numbers, and whether a card holds it. Definitions only.
+use Prim.Native.Nat.{ℕ, _+_}
+use mathlib.Core.Bool.{Bool, not}
 use mathlib.Core.List.{List, [], _∷_}
 use lib.Dec.{eqb, ltb}
 use lib.ListN.{length, getD}
@@ -11,15 +10,12 @@ use Rattle.laws.specs.Front.{list}
 use Rattle.laws.specs.Table.{anyOf}
 use Rattle.laws.specs.Values.{plusZero}
 use Rattle.packed.specs.Packing.{numberOr, thousandthsOf, millisecondsOf}
-use Rattle.card.specs.Layout.{Meaning, LayoutFits, SegmentFits}
-use Rattle.card_writer.specs.Form.{segmentWidth, cardSize, cardBytes}
-use Rattle.bits.specs.Pens.{PenReady, bitCount}
+use Rattle.card.specs.Layout.{Meaning}
 use Rattle.card.specs.Rules.{before, cardBroken}
-use Rattle.card_writer.specs.declared.analysed.Overall.{Overall}
+use Rattle.card_judge.specs.declared.analysed.Overall.{Overall}
 use Rattle.card.specs.declared.layout.Layout.{Layout}
 use Rattle.card.specs.declared.layout.Header.{Header}
 use Rattle.card.specs.declared.layout.Segment.{Segment}
-use Rattle.bits.specs.declared.pen.Pen.{Pen}
 
 -- what is said of the whole track, and the segments in four lists
 pub record Analysis : Type 0 where
@@ -88,35 +84,3 @@ unwritable l a =
     ∷ cardBroken l (meaningOf l a)
     ∷ ltb (firstGap (a .starts) (a .ends)) (length (a .ends))
     ∷ [])
-
--- ---- what the functions need
--- lists as long as the ends, and segments that fit their widths
-pub record SegmentsFit (l : Layout) (ends : List Float) (keys : List ℕ) (confidences : List Float) : Type 0 where
-  pub layout : LayoutFits l
-  pub keyed : length keys ≡ length ends
-  pub trusted : length confidences ≡ length ends
-  pub fit : (i : ℕ) → i < length ends → SegmentFits l (packedAt l ends keys confidences i)
-
--- a pen with room for the segments
-pub record CanPutSegments (bytes : List ℕ) (pen : Pen) (l : Layout) (ends : List Float) (keys : List ℕ) (confidences : List Float) : Type 0 where
-  pub ready : PenReady pen
-  pub fitting : SegmentsFit l ends keys confidences
-  pub room : bitCount pen + length ends * segmentWidth l ≤ length bytes * 8
-
--- a card that breaks no rule, and bytes for it
-pub record CanWrite (bytes : List ℕ) (l : Layout) (o : Overall) (ends : List Float) (keys : List ℕ) (confidences : List Float) : Type 0 where
-  pub layout : LayoutFits l
-  pub keyed : length keys ≡ length ends
-  pub trusted : length confidences ≡ length ends
-  pub good : cardBroken l (meaning l o ends keys confidences) ≡ false
-  pub room : cardSize l (length ends) ≤ length bytes
-
--- ---- the theorem that proofs/OneCard.antt proves
--- equal packed numbers give equal bytes, and different ones different bytes
-pub record SameCard (l : Layout) (a b : Analysis) : Type 0 where
-  pub one-card : meaningOf l a ≡ meaningOf l b → cardBytes l (meaningOf l a) ≡ cardBytes l (meaningOf l b)
-  pub one-meaning : cardBytes l (meaningOf l a) ≡ cardBytes l (meaningOf l b) → meaningOf l a ≡ meaningOf l b
-
--- one meaning has one card: so it is for any two analyses that are written
-abbrev pub OneMeaningOneCard : Type 0
-OneMeaningOneCard = (l : Layout) → LayoutFits l → (a b : Analysis) → unwritable l a ≡ false → unwritable l b ≡ false → SameCard l a b

@@ -7,13 +7,13 @@ use Rattle.laws.specs.Front.{list}
 use Rattle.bits.specs.Pens.{BitsPut}
 use Rattle.card.specs.Layout.{SegmentFits}
 use Rattle.card_writer.specs.Form.{segmentBits, segmentsBits, segmentWidth}
-use Rattle.card_writer.specs.Analysed.{packedAt}
+use Rattle.card_judge.specs.Analysed.{packedAt}
 use Rattle.card.specs.declared.layout.Layout.{Layout}
 use Rattle.card.specs.declared.layout.Segment.{Segment}
 use Rattle.bits.proofs.Puts.{put-none, put-put}
 use Rattle.card_writer.proofs.Cards.{one-more, one-more-fits, place-after}
-use Rattle.card_writer.proofs.analysed.put_segments.Statement.{statement}
-use Rattle.card_writer.proofs.analysed.put_segments.Tie as tie
+use Rattle.card_writer.proofs.write.put_segments.Statement.{statement}
+use Rattle.card_writer.proofs.write.put_segments.Tie as tie
 
 abbrev Inv-loop : tie.InvT-loop
 Inv-loop bytes₀ l ends keys confidences width pen₀ i₀ bytes pen i =

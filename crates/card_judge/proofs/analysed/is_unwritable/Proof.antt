@@ -8,11 +8,11 @@ use borrow.Author.Needs.{needs}
 use borrow.Author.Tests.{lt-ltb, le-ltb}
 use Rattle.laws.proofs.Table.{told}
 use Rattle.card.specs.Rules.{headerBroken}
-use Rattle.card_writer.specs.Analysed.{Analysis, analysis}
+use Rattle.card_judge.specs.Analysed.{Analysis, analysis}
 use Rattle.card.specs.declared.layout.Header.{Header}
-use Rattle.card_writer.proofs.Broken.{Unequal, InHeader, equal-lengths, by-lengths, by-header, by-segments, by-gaps}
-use Rattle.card_writer.proofs.analysed.is_unwritable.Statement.{statement}
-use Rattle.card_writer.proofs.analysed.is_unwritable.Tie as tie
+use Rattle.card_judge.proofs.Broken.{Unequal, InHeader, equal-lengths, by-lengths, by-header, by-segments, by-gaps}
+use Rattle.card_judge.proofs.analysed.is_unwritable.Statement.{statement}
+use Rattle.card_judge.proofs.analysed.is_unwritable.Tie as tie
 
 abbrev asked : tie.Start → Analysis
 asked c = analysis (c .args .o) (c .args .starts .now) (c .args .ends .now) (c .args .keys .now) (c .args .confidences .now)

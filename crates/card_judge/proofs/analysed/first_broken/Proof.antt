@@ -9,11 +9,11 @@ use borrow.Author.Needs.{needs}
 use Rattle.laws.specs.First.{first}
 use Rattle.laws.proofs.First.{first-start, first-again, first-out, first-end}
 use Rattle.card.specs.Rules.{segmentIn, before, brokenAt, firstBroken}
-use Rattle.card_writer.specs.Analysed.{packedSegments}
+use Rattle.card_judge.specs.Analysed.{packedSegments}
 use Rattle.card.specs.declared.layout.Segment.{Segment}
-use Rattle.card_writer.proofs.Broken.{segments-count, segment-packed, told-broken}
-use Rattle.card_writer.proofs.analysed.first_broken.Statement.{statement}
-use Rattle.card_writer.proofs.analysed.first_broken.Tie as tie
+use Rattle.card_judge.proofs.Broken.{segments-count, segment-packed, told-broken}
+use Rattle.card_judge.proofs.analysed.first_broken.Statement.{statement}
+use Rattle.card_judge.proofs.analysed.first_broken.Tie as tie
 
 abbrev Inv-loop : tie.InvT-loop
 Inv-loop l ends keys confidences count previous₀ i₀ previous i =

@@ -1,18 +1,9 @@
-// An analysis in seconds and parts of one: its packed numbers, whether a card can hold it, and the card.
+// An analysis in seconds and parts of one: its packed numbers, and whether a card can hold it.
 ghost use mathlib.Core.Path.{_≡_};
-ghost use Prim.Native.Nat.{_≤_};
 ghost use lib.ListN.{length};
-ghost use Rattle.laws.specs.Front.{front};
-ghost use Rattle.bits.specs.Pens.{BitsPut};
 ghost use Rattle.card.specs.Layout.{LayoutFits};
-ghost use Rattle.card_writer.specs.Form.{segmentsBits, cardSize, cardBytes};
 ghost use Rattle.card.specs.Rules.{firstBroken};
-ghost use Rattle.card_writer.specs.Analysed.{packedPart, packedHeader, packedSegment, packedSegments, analysis, meaning, unequal, firstGap, unwritable, CanPutSegments, CanWrite};
-use crate::fields::card_size;
-use crate::fields::header_number;
-use crate::fields::segment_number;
-use bits::pen::Pen;
-use bits::pen::put_bits;
+ghost use Rattle.card_judge.specs.Analysed.{packedPart, packedHeader, packedSegment, packedSegments, analysis, unequal, firstGap, unwritable};
 use card::layout::Header;
 use card::layout::Layout;
 use card::layout::Segment;
@@ -39,7 +30,7 @@ fn packed_part(x: f32) -> u64
 }
 
 // A header's packed numbers.
-fn packed_header(o: Overall) -> Header
+pub fn packed_header(o: Overall) -> Header
     ensures { λ r. ⌜ r ≡ packedHeader o ⌝ }
 {
     Header {
@@ -52,7 +43,7 @@ fn packed_header(o: Overall) -> Header
 }
 
 // A segment's packed numbers.
-fn packed_segment(l: Layout, end: f64, key: u8, confidence: f32) -> Segment
+pub fn packed_segment(l: Layout, end: f64, key: u8, confidence: f32) -> Segment
     requires { ⌜ LayoutFits l ⌝ }
     ensures { λ r. ⌜ r ≡ packedSegment l end key confidence ⌝ }
 {
@@ -135,54 +126,4 @@ pub fn is_unwritable(
         return true;
     }
     first_gap(starts, ends) < count
-}
-
-// Puts the segments behind what the pen has put.
-fn put_segments(
-    bytes: &mut [u8],
-    first: Pen,
-    l: Layout,
-    ends: &[f64],
-    keys: &[u8],
-    confidences: &[f32],
-) -> Pen
-    requires { ⌜ CanPutSegments (now bytes) first l (now ends) (now keys) (now confidences) ⌝ }
-    ensures { λ r. ⌜ BitsPut (now (bytes .entry)) (now (bytes .exit)) first r (segmentsBits l (packedSegments l (now (ends .entry)) (now (keys .entry)) (now (confidences .entry)))) ⌝ }
-{
-    let width = l.end + 5 + 10;
-    let mut pen = first;
-    let mut i = 0;
-    while i < ends.len() {
-        let s = packed_segment(l, ends[i], keys[i], confidences[i]);
-        let number = segment_number(l, s);
-        pen = put_bits(bytes, pen, width, number);
-        i += 1;
-    }
-    pen
-}
-
-// Writes the card from the front of `bytes` and returns its length. Bytes beyond it stay.
-pub fn write_card(
-    bytes: &mut [u8],
-    l: Layout,
-    o: Overall,
-    ends: &[f64],
-    keys: &[u8],
-    confidences: &[f32],
-) -> usize
-    requires { ⌜ CanWrite (now bytes) l o (now ends) (now keys) (now confidences) ⌝ }
-    ensures { λ r. ⌜ (r ≡ cardSize l (length (now (ends .entry)))) × (now (bytes .exit) ≡ front (cardBytes l (meaning l o (now (ends .entry)) (now (keys .entry)) (now (confidences .entry)))) (now (bytes .entry))) ⌝ }
-{
-    let count = ends.len();
-    let size = card_size(l, count);
-    let fresh = Pen {
-        at: 0,
-        count: 0,
-        waiting: 0,
-    };
-    let header = header_number(l, packed_header(o), count);
-    let headed = put_bits(bytes, fresh, 39 + l.count, header);
-    let last = put_segments(bytes, headed, l, ends, keys, confidences);
-    put_bits(bytes, last, (8 - last.count) % 8, 0);
-    size
 }

@@ -1,7 +1,7 @@
 -- The callees' definitions, put together.
 use borrow.Author.Needs.{needs}
-use Rattle.card_writer.proofs.analysed.packed_segment.Statement.{statement}
-use Rattle.card_writer.proofs.analysed.packed_segment.Tie as tie
+use Rattle.card_judge.proofs.analysed.packed_segment.Statement.{statement}
+use Rattle.card_judge.proofs.analysed.packed_segment.Tie as tie
 
 milliseconds-requires : tie.Need-milliseconds-requires
 milliseconds-requires c κs = search needs

@@ -1,0 +1,2 @@
+-- From broken rules, lists and gaps to the definition.
+pub mod Broken
