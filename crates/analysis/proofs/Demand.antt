@@ -42,13 +42,13 @@ use Rattle.alternates.proofs.Tiled.{tiled-total-finite}
 use Rattle.rooms.specs.Lent.{Lent, withFrames, workZeroed, withSegments}
 use Rattle.rooms.specs.Room.{hasty, roomOf}
 use Rattle.verdicts.specs.Verdict.{faint, verdictOf}
-use Rattle.verdicts.specs.Answer.{counts, keyless, withKey}
+use Rattle.answers.specs.Answer.{counts, keyless, withKey}
 use Rattle.reports.specs.Report.{trackOf, namedIn, toldBy, reportOf}
 use Rattle.loud_frames.specs.Loud.{outcome, heardIn, reportedIn, framesAnalysed}
 use Rattle.positions.specs.Positions.{filledAnalysed, positionsAnalysed}
 use Rattle.analysis.specs.Analyse.{afterChecks, tableOf}
 use Rattle.analysis.specs.Demand.{Alternating, DemandThree, Typed, AnalysisKeeps}
-use Rattle.verdicts.specs.declared.answer.Counts.{Counts}
+use Rattle.answers.specs.declared.answer.Counts.{Counts}
 use Rattle.verdicts.specs.declared.verdict.Verdict.{Verdict}
 use Rattle.analysis.proofs.Supplied.{passed-timed}
 

@@ -12,11 +12,11 @@ use Rattle.timeline.specs.Estimates.{estimateRoom}
 use Rattle.timeline.specs.Segments.{segmentRoom}
 use Rattle.rooms.specs.Lent.{Lent}
 use Rattle.rooms.specs.Room.{hasty, roomFor, roomOf}
-use Rattle.verdicts.specs.Answer.{keyless}
+use Rattle.answers.specs.Answer.{keyless}
 use Rattle.loud_frames.specs.Loud.{Outcome, outcome}
 use Rattle.positions.specs.Positions.{positionsAnalysed}
 use Rattle.analysis.specs.Analyse.{afterChecks, tableOf, analysed}
-use Rattle.verdicts.specs.declared.answer.AnalyseResult.{AnalyseResult}
+use Rattle.answers.specs.declared.answer.AnalyseResult.{AnalyseResult}
 
 module _ (c : Call) (l : Lent) where
   -- the room that the call finds in all that it is lent

@@ -6,7 +6,7 @@ use Rattle.checks.specs.declared.Checked.{Checked}
 use Rattle.checks.specs.declared.Checked.the-variants.{Refused, Empty, Go}
 use Rattle.rooms.specs.Lent.{Lent}
 use Rattle.rooms.specs.Room.{hasty, roomOf}
-use Rattle.verdicts.specs.Answer.{keyless}
+use Rattle.answers.specs.Answer.{keyless}
 use Rattle.loud_frames.specs.Loud.{Outcome, outcome}
 use Rattle.positions.specs.Positions.{positionsAnalysed}
 

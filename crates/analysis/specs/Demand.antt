@@ -15,7 +15,7 @@ use Rattle.alternates.specs.Named.{Reaches, Rightly}
 use Rattle.rooms.specs.Lent.{Lent}
 use Rattle.loud_frames.specs.Loud.{Outcome}
 use Rattle.analysis.specs.Analyse.{analysed}
-use Rattle.verdicts.specs.declared.answer.AnalyseResult.{AnalyseResult}
+use Rattle.answers.specs.declared.answer.AnalyseResult.{AnalyseResult}
 
 -- the samples over the rate, in seconds
 abbrev pub durationOf : Call → Float

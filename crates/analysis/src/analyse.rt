@@ -4,6 +4,8 @@ ghost use Rattle.calls.specs.Call.{given};
 ghost use Rattle.rooms.specs.Lent.{lentAll};
 ghost use Rattle.loud_frames.specs.Loud.{outcome};
 ghost use Rattle.analysis.specs.Analyse.{analysed};
+use answers::answer::AnalyseResult;
+use answers::answer::keyless;
 use calls::Settings;
 use calls::SheetHead;
 use checks::Checked;
@@ -14,8 +16,6 @@ use rooms::is_hasty;
 use rooms::room_for;
 use timeline::estimate::estimate_room;
 use timeline::segment::segment_room;
-use verdicts::answer::AnalyseResult;
-use verdicts::answer::keyless;
 
 // The Rust's `analyze` without its reranker.
 pub fn analyse(

@@ -1,4 +1,3 @@
-// A chroma's own leaves: whitening, normalising, tuning, shift.
-pub mod levels;
+// The tuning of a track, and the shift of a chroma by it.
 pub mod shift;
 pub mod tuning;

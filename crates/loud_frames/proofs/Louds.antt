@@ -14,10 +14,10 @@ use Rattle.timeline.specs.Estimates.{EstimateRows}
 use Rattle.timeline.specs.Segments.{SegmentRows}
 use Rattle.rooms.specs.Lent.{Lent, lent, workZeroed}
 use Rattle.verdicts.specs.Verdict.{faint, verdictOf}
-use Rattle.verdicts.specs.Answer.{keyless}
+use Rattle.answers.specs.Answer.{keyless}
 use Rattle.reports.specs.Report.{reported, reportOf}
 use Rattle.loud_frames.specs.Loud.{outcome, heardIn, reportedIn, framesAnalysed}
-use Rattle.verdicts.specs.declared.answer.AnalyseResult.{AnalyseResult}
+use Rattle.answers.specs.declared.answer.AnalyseResult.{AnalyseResult}
 use Rattle.verdicts.specs.declared.verdict.Verdict.{Verdict}
 
 module _ (s : Settings) (count frames : ℕ) (l : Lent) where

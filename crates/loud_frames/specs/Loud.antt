@@ -12,8 +12,8 @@ use Rattle.gathering.specs.Gather.{Heard, heard}
 use Rattle.segments.specs.Track.{Prepared}
 use Rattle.rooms.specs.Lent.{Lent, workZeroed, withSegments}
 use Rattle.verdicts.specs.Verdict.{faint, verdictOf}
-use Rattle.verdicts.specs.Answer.{keyless}
-use Rattle.verdicts.specs.declared.answer.AnalyseResult.{AnalyseResult}
+use Rattle.answers.specs.Answer.{keyless}
+use Rattle.answers.specs.declared.answer.AnalyseResult.{AnalyseResult}
 use Rattle.reports.specs.Report.{Reported, reportOf}
 
 -- what the call answers, and what it leaves in all that it was lent

@@ -2,11 +2,11 @@
 ghost use mathlib.Core.Path.{_≡_};
 ghost use Rattle.rooms.specs.Lent.{lentAll};
 ghost use Rattle.loud_frames.specs.Loud.{outcome, framesAnalysed, Stocked};
+use answers::answer::AnalyseResult;
+use answers::answer::keyless;
 use calls::Settings;
 use onsets::weighted::weighted_medians;
 use reports::report::report_track;
-use verdicts::answer::AnalyseResult;
-use verdicts::answer::keyless;
 use verdicts::verdict::is_faint;
 use verdicts::verdict::judge_medians;
 

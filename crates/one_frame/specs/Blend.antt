@@ -7,7 +7,7 @@ use lib.Ieee.{Float, nan, binary32, add, mul, lt}
 use Rattle.laws.specs.Front.{list}
 use Rattle.laws.specs.Values.{aHalf, epsilon}
 use Rattle.numbers.specs.Sum.{sumOf}
-use Rattle.chroma.specs.Levels.{whitenedOf, normalizedOf}
+use Rattle.whitening.specs.Levels.{whitenedOf, normalizedOf}
 
 -- whitened and normalised
 unfoldable pub levelled : List Float → List Float

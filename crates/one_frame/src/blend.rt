@@ -1,9 +1,9 @@
 // One chroma of two: Goertzel's, and constant-Q's where it has energy.
 ghost use mathlib.Core.Path.{_≡_};
 ghost use Rattle.one_frame.specs.Blend.{levelled, halvesOf, blendOf};
-use chroma::levels::normalize_chroma;
-use chroma::levels::whiten_chroma;
 use numbers::twelve::sum_of_twelve;
+use whitening::levels::normalize_chroma;
+use whitening::levels::whiten_chroma;
 
 // A chroma whitened and normalised.
 fn level(chroma: &[f32; 12]) -> [f32; 12]

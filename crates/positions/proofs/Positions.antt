@@ -10,10 +10,10 @@ use Rattle.frames.specs.declared.run.Filled.{Filled}
 use Rattle.frames.specs.declared.run.Filled.the-variants.{All, NotFinite}
 use Rattle.frames.proofs.Left.{run-left}
 use Rattle.rooms.specs.Lent.{Lent, withFrames}
-use Rattle.verdicts.specs.Answer.{keyless}
+use Rattle.answers.specs.Answer.{keyless}
 use Rattle.loud_frames.specs.Loud.{Outcome, outcome, framesAnalysed, Stocked}
 use Rattle.positions.specs.Positions.{filledAnalysed, ranAnalysed, positionsAnalysed, Supplied}
-use Rattle.verdicts.specs.declared.answer.AnalyseResult.{AnalyseResult}
+use Rattle.answers.specs.declared.answer.AnalyseResult.{AnalyseResult}
 
 module _ (c : Call) (positions : ℕ) (l : Lent) {filled : Filled} {now : Rows} (run : ran filled now ≡ runOf c positions (l .frames)) where
   pub stocked-so : {n : ℕ} → filled ≡ All n → Supplied c positions l → Stocked (c .settings) (length (c .samples)) n (withFrames now l)

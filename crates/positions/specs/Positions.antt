@@ -9,7 +9,7 @@ use Rattle.frames.specs.declared.run.Filled.the-variants.{All, NotFinite}
 use Rattle.windows.specs.Span.{spanOf}
 use Rattle.segments.specs.Track.{Prepared}
 use Rattle.rooms.specs.Lent.{Lent, withFrames}
-use Rattle.verdicts.specs.Answer.{keyless}
+use Rattle.answers.specs.Answer.{keyless}
 use Rattle.loud_frames.specs.Loud.{Outcome, outcome, heardIn, framesAnalysed}
 
 -- a frame that is not finite ends the call by number 9

@@ -4,13 +4,13 @@ ghost use Rattle.calls.specs.Call.{given};
 ghost use Rattle.rooms.specs.Lent.{lentAll};
 ghost use Rattle.loud_frames.specs.Loud.{outcome};
 ghost use Rattle.positions.specs.Positions.{positionsAnalysed, Supplied};
+use answers::answer::AnalyseResult;
+use answers::answer::keyless;
 use calls::Settings;
 use calls::SheetHead;
 use frames::run::Filled;
 use frames::run::fill_rows;
 use loud_frames::loud::analyse_frames;
-use verdicts::answer::AnalyseResult;
-use verdicts::answer::keyless;
 
 // All frame positions in turn, and the analysis of the loud ones where each is finite.
 pub fn analyse_positions(

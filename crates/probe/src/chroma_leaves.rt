@@ -4,14 +4,14 @@ ghost use lib.Dec.{ltb};
 ghost use mathlib.Core.Bool.{cond};
 ghost use lib.ListN.{length};
 ghost use Rattle.laws.specs.Values.{plusZero};
-ghost use Rattle.chroma.specs.Levels.{whitenedOf, normalizedOf};
+ghost use Rattle.whitening.specs.Levels.{whitenedOf, normalizedOf};
 ghost use Rattle.onsets.specs.Onsets.{weightAt};
 ghost use Rattle.chroma.specs.Shift.{shiftedOf};
 ghost use Rattle.chroma.specs.Tuning.{tuningOf};
-use chroma::levels;
 use chroma::shift;
 use chroma::tuning;
 use onsets::weights::weight_at;
+use whitening::levels;
 
 #[repr(C)]
 pub struct Twelve {

@@ -11,9 +11,9 @@ use Rattle.segments.specs.Track.{outcome, locatedOf, Prepared}
 use Rattle.segments.specs.declared.fill.Track.{Track}
 use Rattle.segments.specs.declared.track.Located.{Located}
 use Rattle.segments.specs.declared.track.Located.the-variants.{Told, Halted}
-use Rattle.verdicts.specs.Answer.{counts, keyless}
+use Rattle.answers.specs.Answer.{counts, keyless}
 use Rattle.reports.specs.Report.{trackOf, namedIn, toldBy, reported, reportBy, reportOf}
-use Rattle.verdicts.specs.declared.answer.AnalyseResult.{AnalyseResult}
+use Rattle.answers.specs.declared.answer.AnalyseResult.{AnalyseResult}
 use Rattle.verdicts.specs.declared.verdict.Verdict.{Verdict}
 
 pub prepared-span : {span known : Span} {h : Heard} {e : EstimateRows} {before : SegmentRows} → span ≡ known → Prepared known h e before → Prepared span h e before

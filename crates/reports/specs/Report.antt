@@ -16,9 +16,9 @@ use Rattle.segments.specs.declared.track.Located.{Located}
 use Rattle.segments.specs.declared.track.Located.the-variants.{Told, Halted}
 use Rattle.longest.specs.Longest.{reportedOf}
 use Rattle.alternates.specs.Alternate.{alternateOf}
-use Rattle.verdicts.specs.Answer.{counts, keyless, withAlternate}
-use Rattle.verdicts.specs.declared.answer.AnalyseResult.{AnalyseResult}
-use Rattle.verdicts.specs.declared.answer.Counts.{Counts}
+use Rattle.answers.specs.Answer.{counts, keyless, withAlternate}
+use Rattle.answers.specs.declared.answer.AnalyseResult.{AnalyseResult}
+use Rattle.answers.specs.declared.answer.Counts.{Counts}
 use Rattle.verdicts.specs.declared.verdict.Verdict.{Verdict}
 
 -- what the segments rest on beside the estimates

@@ -10,7 +10,7 @@ use Rattle.timeline.specs.Estimates.{EstimateRows}
 use Rattle.timeline.specs.Segments.{SegmentRows}
 use Rattle.rooms.specs.Lent.{Lent}
 use Rattle.loud_frames.specs.Loud.{Outcome}
-use Rattle.verdicts.specs.declared.answer.AnalyseResult.{AnalyseResult}
+use Rattle.answers.specs.declared.answer.AnalyseResult.{AnalyseResult}
 use Rattle.stored_analyses.specs.Rows.{sameValues, sameChroma, sameChromas, sameTimes, sameNumbers}
 
 -- as long as those that each call is lent

@@ -14,7 +14,7 @@ use crate::rows::counts_agree;
 use crate::rows::numbers_agree;
 use crate::rows::times_agree;
 use crate::rows::values_agree;
-use verdicts::answer::AnalyseResult;
+use answers::answer::AnalyseResult;
 
 // Whether this is the answer from `at` on.
 fn answer_agrees(bytes: &[u8], at: usize, answer: AnalyseResult) -> bool

@@ -4,9 +4,9 @@ ghost use Rattle.rooms.specs.Lent.{lentAll};
 ghost use Rattle.loud_frames.specs.Loud.{outcome};
 ghost use Rattle.ulyptesh.specs.Analysis.{Promised};
 use analysis::analyse::analyse;
+use answers::answer::AnalyseResult;
 use calls::Settings;
 use calls::SheetHead;
-use verdicts::answer::AnalyseResult;
 
 // Analyses a track: frames, estimates and segments go into the lent rows, and the answer tells key and counts.
 #[no_mangle]

@@ -1,2 +1,1 @@
 pub mod Verdict
-pub mod Answer

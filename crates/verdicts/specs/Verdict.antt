@@ -5,7 +5,7 @@ use mathlib.Core.List.{List}
 use lib.Ieee.{Float, le}
 use Rattle.laws.specs.Values.{epsilon}
 use Rattle.numbers.specs.Sum.{sumOf}
-use Rattle.chroma.specs.Levels.{normalizedOf}
+use Rattle.whitening.specs.Levels.{normalizedOf}
 use Rattle.chroma.specs.Shift.{retunedOf}
 use Rattle.chroma.specs.Tuning.{tuningOf}
 use Rattle.key_choice.specs.Classify.{confidenceOf, classifiedOf}

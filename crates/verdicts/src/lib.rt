@@ -1,3 +1,2 @@
-// What all loud frames together tell of a track, and the answer that is made of it.
-pub mod answer;
+// What all loud frames together tell of a track.
 pub mod verdict;

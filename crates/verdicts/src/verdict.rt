@@ -3,13 +3,13 @@ ghost use mathlib.Core.Path.{_≡_};
 ghost use Prim.Native.Nat.{_≤_};
 ghost use lib.ListN.{length};
 ghost use Rattle.verdicts.specs.Verdict.{faint, tunedOf, verdictOf};
-use chroma::levels::normalize_chroma;
 use chroma::shift::retune_chroma;
 use chroma::tuning::estimate_tuning;
 use key_choice::classify::classify_key;
 use key_choice::classify::key_confidence;
 use keys::Key;
 use numbers::twelve::sum_of_twelve;
+use whitening::levels::normalize_chroma;
 
 // The track's chroma, its key and the confidence in it.
 pub struct Verdict {

@@ -1,7 +1,7 @@
 -- A window's estimate, written from the Rust's `estimate_segments`. Definitions only.
 use mathlib.Core.List.{List}
 use lib.Ieee.{Float}
-use Rattle.chroma.specs.Levels.{normalizedOf}
+use Rattle.whitening.specs.Levels.{normalizedOf}
 use Rattle.key_choice.specs.declared.classify.Classified.{Classified}
 use Rattle.key_choice.specs.Classify.{confidenceOf, classifiedOf}
 use Rattle.timeline.specs.declared.estimate.Estimate.{Estimate}

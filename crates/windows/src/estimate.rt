@@ -1,10 +1,10 @@
 // A window's estimate.
 ghost use mathlib.Core.Path.{_≡_};
 ghost use Rattle.windows.specs.Estimates.{estimateOf};
-use chroma::levels::normalize_chroma;
 use key_choice::classify::classify_key;
 use key_choice::classify::key_confidence;
 use timeline::estimate::Estimate;
+use whitening::levels::normalize_chroma;
 
 // What a window's summed chroma tells.
 pub fn estimate_of(centre: f64, chroma: [f32; 12]) -> Estimate

@@ -4,7 +4,7 @@ use mathlib.Core.Path.{ap, ap₂, _∙_}
 use lib.Ieee.{lt}
 use Rattle.laws.specs.Values.{epsilon}
 use Rattle.laws.proofs.Table.{told}
-use Rattle.chroma.specs.Levels.{normalizedOf}
+use Rattle.whitening.specs.Levels.{normalizedOf}
 use Rattle.one_frame.specs.Blend.{halvesOf, blendOf}
 use Rattle.one_frame.proofs.blend.blend.Statement.{statement}
 use Rattle.one_frame.proofs.blend.blend.Tie as tie

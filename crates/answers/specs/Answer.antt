@@ -7,9 +7,9 @@ use Rattle.keys.specs.declared.Key.{Key}
 use Rattle.keys.specs.Numbers.{keyNumber}
 use Rattle.alternates.specs.Alternate.{alternateNumber, alternateCoverage}
 use Rattle.alternates.specs.declared.alternate.Alternate.{Alternate}
-use Rattle.verdicts.specs.declared.answer.AnalyseResult.{AnalyseResult}
-use Rattle.verdicts.specs.declared.answer.Counts.{Counts}
+use Rattle.answers.specs.declared.answer.AnalyseResult.{AnalyseResult}
+use Rattle.answers.specs.declared.answer.Counts.{Counts}
 use Rattle.verdicts.specs.declared.verdict.Verdict.{Verdict}
 
 -- how many rows of each kind are written
 abbrev pub counts : ℕ → ℕ → ℕ → Counts

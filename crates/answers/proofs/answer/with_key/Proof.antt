@@ -1,8 +1,8 @@
 -- The answer is written out; a key number stays what it is in more bits.
 use borrow.Author.Needs.{needs}
-use Rattle.verdicts.specs.Answer.{withKey}
-use Rattle.verdicts.proofs.answer.with_key.Statement.{statement}
-use Rattle.verdicts.proofs.answer.with_key.Tie as tie
+use Rattle.answers.specs.Answer.{withKey}
+use Rattle.answers.proofs.answer.with_key.Statement.{statement}
+use Rattle.answers.proofs.answer.with_key.Tie as tie
 
 key-number-requires : tie.Need-key-number-requires
 key-number-requires c κs = search needs

@@ -1,6 +1,6 @@
 // Whitening and normalising the twelve values of a chroma.
 ghost use mathlib.Core.Path.{_≡_};
-ghost use Rattle.chroma.specs.Levels.{whitened, whitenedOf, dividedBy, normalizedOf};
+ghost use Rattle.whitening.specs.Levels.{whitened, whitenedOf, dividedBy, normalizedOf};
 use numbers::twelve::sum_of_twelve;
 use roots::square_root;
 

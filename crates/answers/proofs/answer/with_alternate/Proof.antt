@@ -1,8 +1,8 @@
 -- An arm for each answer.
 use borrow.Author.Needs.{needs}
 use lib.Ieee.{ofBits}
-use Rattle.verdicts.proofs.answer.with_alternate.Statement.{statement}
-use Rattle.verdicts.proofs.answer.with_alternate.Tie as tie
+use Rattle.answers.proofs.answer.with_alternate.Statement.{statement}
+use Rattle.answers.proofs.answer.with_alternate.Tie as tie
 
 enum-told : tie.Need-enum-told
 enum-told c = search needs

@@ -1,9 +1,9 @@
 -- Each return is a branch of the definition.
 use borrow.Author.Needs.{needs}
 use lib.Ieee.{ofBits}
-use Rattle.chroma.specs.Levels.{whitened}
-use Rattle.chroma.proofs.levels.whiten_value.Statement.{statement}
-use Rattle.chroma.proofs.levels.whiten_value.Tie as tie
+use Rattle.whitening.specs.Levels.{whitened}
+use Rattle.whitening.proofs.levels.whiten_value.Statement.{statement}
+use Rattle.whitening.proofs.levels.whiten_value.Tie as tie
 
 square-root-requires : tie.Need-square-root-requires
 square-root-requires c κs = search needs

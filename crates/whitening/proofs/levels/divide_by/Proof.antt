@@ -6,9 +6,9 @@ use Prim.Native.Nat.{ℕ, _≤_, _-_}
 use lib.ListN.{getD}
 use lib.Ieee.{nan, binary32, div}
 use Rattle.laws.proofs.Front.{Filled, filled-start, filled-more, filled-whole}
-use Rattle.chroma.specs.Levels.{dividedBy}
-use Rattle.chroma.proofs.levels.divide_by.Statement.{statement}
-use Rattle.chroma.proofs.levels.divide_by.Tie as tie
+use Rattle.whitening.specs.Levels.{dividedBy}
+use Rattle.whitening.proofs.levels.divide_by.Statement.{statement}
+use Rattle.whitening.proofs.levels.divide_by.Tie as tie
 
 abbrev Inv-loop : tie.InvT-loop
 Inv-loop chroma total values₀ i₀ values i = (i ≤ 12) × Filled (λ (k : ℕ). div binary32 (getD chroma k nan) total) values₀ values i

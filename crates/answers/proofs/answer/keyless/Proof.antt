@@ -1,9 +1,9 @@
 -- The answer is written out.
 use mathlib.Core.Path.{refl}
 use lib.Ieee.{ofBits}
-use Rattle.verdicts.specs.Answer.{keyless}
-use Rattle.verdicts.proofs.answer.keyless.Statement.{statement}
-use Rattle.verdicts.proofs.answer.keyless.Tie as tie
+use Rattle.answers.specs.Answer.{keyless}
+use Rattle.answers.proofs.answer.keyless.Statement.{statement}
+use Rattle.answers.proofs.answer.keyless.Tie as tie
 
 returns : tie.Need-returns
 unfolding ofBits keyless

@@ -1,10 +1,10 @@
 // What an analysis answers, as numbers.
 ghost use mathlib.Core.Path.{_≡_};
-ghost use Rattle.verdicts.specs.Answer.{keyless, withKey, withAlternate};
-use crate::verdict::Verdict;
+ghost use Rattle.answers.specs.Answer.{keyless, withKey, withAlternate};
 use alternates::alternate::Alternate;
 use keys::Key;
 use keys::numbers::key_number;
+use verdicts::verdict::Verdict;
 
 // Refusal or 0, the position that 9 names, keys by number (24 for a missing one), how many rows are written, chroma.
 #[repr(C)]

@@ -4,9 +4,9 @@ use mathlib.Core.Path.{ap, _∙_}
 use lib.Ieee.{lt}
 use Rattle.laws.specs.Values.{epsilon}
 use Rattle.laws.proofs.Table.{told}
-use Rattle.chroma.specs.Levels.{dividedBy, normalizedOf}
-use Rattle.chroma.proofs.levels.normalize_chroma.Statement.{statement}
-use Rattle.chroma.proofs.levels.normalize_chroma.Tie as tie
+use Rattle.whitening.specs.Levels.{dividedBy, normalizedOf}
+use Rattle.whitening.proofs.levels.normalize_chroma.Statement.{statement}
+use Rattle.whitening.proofs.levels.normalize_chroma.Tie as tie
 
 sum-of-twelve-requires : tie.Need-sum-of-twelve-requires
 sum-of-twelve-requires c κs = search needs

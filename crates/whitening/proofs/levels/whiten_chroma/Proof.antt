@@ -6,9 +6,9 @@ use Prim.Native.Nat.{ℕ, _≤_, _-_}
 use lib.ListN.{getD}
 use lib.Ieee.{nan}
 use Rattle.laws.proofs.Front.{Filled, filled-start, filled-more, filled-whole}
-use Rattle.chroma.specs.Levels.{whitened, whitenedOf}
-use Rattle.chroma.proofs.levels.whiten_chroma.Statement.{statement}
-use Rattle.chroma.proofs.levels.whiten_chroma.Tie as tie
+use Rattle.whitening.specs.Levels.{whitened, whitenedOf}
+use Rattle.whitening.proofs.levels.whiten_chroma.Statement.{statement}
+use Rattle.whitening.proofs.levels.whiten_chroma.Tie as tie
 
 abbrev Inv-loop : tie.InvT-loop
 Inv-loop chroma values₀ i₀ values i = (i ≤ 12) × Filled (λ (k : ℕ). whitened (getD chroma k nan)) values₀ values i

@@ -1,0 +1,2 @@
+// The answer of an analysis, as numbers.
+pub mod answer;

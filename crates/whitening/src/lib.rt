@@ -1,0 +1,2 @@
+// Whitening and normalising the twelve values of a chroma.
+pub mod levels;
