@@ -16,24 +16,30 @@ use Rattle.card_call.specs.Cards.{cardCall}
 use Rattle.loud_frames.specs.Loud.{Outcome}
 use Rattle.ulyptesh.specs.Analysis.{Promised}
 
--- what a promise says of an outcome, it says of one alone
+-- any two outcomes that a promise allows are equal
 abbrev pub OneOutcome : {O : Type 0} → (O → Type 0) → Type 0
 OneOutcome {O} promise = (a b : O) → promise a → promise b → a ≡ b
 
+-- of `ulyptesh_scores`, for every input
 abbrev pub ScoresUnique : Type 0
 ScoresUnique = (chroma places : List Float) → OneOutcome (λ (o : ScoresOutcome). o ≡ scoresCall chroma places)
 
+-- of `ulyptesh_key`, for every input
 abbrev pub KeyUnique : Type 0
 KeyUnique = (chroma : List Float) → OneOutcome (λ (o : KeyResult). o ≡ keyCall chroma)
 
+-- of `ulyptesh_write_key_name`, for every input
 abbrev pub KeyNameUnique : Type 0
 KeyNameUnique = (number : ℕ) (bytes : List ℕ) → OneOutcome (λ (o : bytewise.Outcome). o ≡ keyNameOf number bytes)
 
+-- of `ulyptesh_write_card`, for every input
 abbrev pub CardUnique : Type 0
 CardUnique = (analysis : Analysis) (bytes : List ℕ) → OneOutcome (λ (o : bytewise.Outcome). o ≡ cardCall analysis bytes)
 
+-- of `ulyptesh_frames`, for every input
 abbrev pub FramesUnique : Type 0
 FramesUnique = (c : Call) (lent : Rows) → OneOutcome (λ (o : FramesOutcome). o ≡ framesOnly c lent)
 
+-- of `ulyptesh_analyse`, for every input
 abbrev pub AnalyseUnique : Type 0
 AnalyseUnique = (c : Call) (lent : Lent) → OneOutcome (Promised c lent)

@@ -9,7 +9,7 @@ same-key-requires c κs = search needs
 
 returns : tie.Need-returns
 unfolding splits
-returns c = cc
+returns c = rw (c .before .same-key .ensures)
 
 pub starts-group-spec : {M : Type 1} → statement M
 starts-group-spec = tie.close (tie.spec same-key-requires returns)
