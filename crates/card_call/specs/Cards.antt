@@ -10,7 +10,7 @@ use Rattle.card_judge.specs.declared.analysed.Overall.{Overall}
 use Rattle.card.specs.Layout.{layout1}
 use Rattle.card_writer.specs.Form.{cardBytes}
 use Rattle.card_judge.specs.Analysed.{Analysis, meaningOf, unwritable}
-use Rattle.written.specs.Outcome.{Outcome, answered, outcome}
+use Rattle.written.specs.Outcome.{answered, BytesOutcome, bytesOutcome}
 
 -- what is said of the whole track
 abbrev pub overall : ℕ → ℕ → ℕ → Float → Float → Overall
@@ -21,10 +21,10 @@ abbrev pub cardOf : Analysis → List ℕ
 cardOf a = cardBytes layout1 (meaningOf layout1 a)
 
 -- 11 for an analysis that no card holds and 12 for too few bytes leave the bytes as they are; else the card stands at their front
-abbrev pub cardCall : Analysis → List ℕ → Outcome
+abbrev pub cardCall : Analysis → List ℕ → BytesOutcome
 cardCall a bytes =
     firstOf
-    ((unwritable layout1 a gives outcome (answered 11 0) bytes)
-    ∷ (ltb (length bytes) (length (cardOf a)) gives outcome (answered 12 0) bytes)
+    ((unwritable layout1 a gives bytesOutcome (answered 11 0) bytes)
+    ∷ (ltb (length bytes) (length (cardOf a)) gives bytesOutcome (answered 12 0) bytes)
     ∷ [])
-    (outcome (answered 0 (length (cardOf a))) (front (cardOf a) bytes))
+    (bytesOutcome (answered 0 (length (cardOf a))) (front (cardOf a) bytes))

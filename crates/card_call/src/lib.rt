@@ -2,7 +2,7 @@
 ghost use mathlib.Core.Path.{_≡_};
 ghost use Rattle.card_judge.specs.Analysed.{analysis};
 ghost use Rattle.card_call.specs.Cards.{overall, cardCall};
-ghost use Rattle.written.specs.Outcome.{outcome};
+ghost use Rattle.written.specs.Outcome.{bytesOutcome};
 use card::layout::layout_1;
 use card_judge::analysed::Overall;
 use card_judge::analysed::is_unwritable;
@@ -25,7 +25,7 @@ pub fn write_analysed_card(
     confidences: &[f32],
     bytes: &mut [u8],
 ) -> Written
-    ensures { λ r. ⌜ outcome r (now (bytes .exit)) ≡ cardCall (analysis (overall key dsp alternate coverage confidence) (now (starts .entry)) (now (ends .entry)) (now (keys .entry)) (now (confidences .entry))) (now (bytes .entry)) ⌝ }
+    ensures { λ r. ⌜ bytesOutcome r (now (bytes .exit)) ≡ cardCall (analysis (overall key dsp alternate coverage confidence) (now (starts .entry)) (now (ends .entry)) (now (keys .entry)) (now (confidences .entry))) (now (bytes .entry)) ⌝ }
 {
     let o = Overall {
         key,

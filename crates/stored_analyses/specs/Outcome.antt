@@ -9,7 +9,7 @@ use Rattle.calls.specs.Rows.{Rows}
 use Rattle.timeline.specs.Estimates.{EstimateRows}
 use Rattle.timeline.specs.Segments.{SegmentRows}
 use Rattle.rooms.specs.Lent.{Lent}
-use Rattle.loud_frames.specs.Loud.{Outcome}
+use Rattle.loud_frames.specs.Loud.{AnalyseOutcome}
 use Rattle.answers.specs.declared.answer.AnalyseResult.{AnalyseResult}
 use Rattle.stored_analyses.specs.Rows.{sameValues, sameChroma, sameChromas, sameTimes, sameNumbers}
 
@@ -56,7 +56,7 @@ sameSegments bytes at r =
     && sameValues bytes (at + 100) (r .confidences)
 
 -- all that a call answers and leaves, behind the record's settings and samples
-unfoldable pub sameOutcome : List ℕ → ℕ → Outcome → Bool
+unfoldable pub sameOutcome : List ℕ → ℕ → AnalyseOutcome → Bool
 sameOutcome bytes start o =
     sameAnswer bytes (start + 1576) (o .answer)
     && sameFrames bytes (start + 1664) (o .lent .frames) (o .lent .work)

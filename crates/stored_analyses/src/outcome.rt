@@ -6,7 +6,7 @@ ghost use Rattle.calls.specs.Rows.{lentRows};
 ghost use Rattle.timeline.specs.Estimates.{lentEstimates};
 ghost use Rattle.timeline.specs.Segments.{lentSegments};
 ghost use Rattle.rooms.specs.Lent.{lentAll};
-ghost use Rattle.loud_frames.specs.Loud.{outcome};
+ghost use Rattle.loud_frames.specs.Loud.{analyseOutcome};
 ghost use Rattle.stored_analyses.specs.Outcome.{Sized, sameAnswer, sameFrames, sameEstimates, sameSegments, sameOutcome};
 use crate::rows::chroma_agrees;
 use crate::rows::chromas_agree;
@@ -108,7 +108,7 @@ pub fn outcome_agrees(
     confidences: &[f32],
 ) -> bool
     requires { ⌜ (start + 2376 ≤ length (now bytes)) × Sized (lentAll centres values energies work middles numbers certainties starts ends keys confidences) ⌝ }
-    ensures { λ r. ⌜ r ≡ sameOutcome (now (bytes .entry)) start (outcome answer (lentAll (centres .entry) (values .entry) (energies .entry) (work .entry) (middles .entry) (numbers .entry) (certainties .entry) (starts .entry) (ends .entry) (keys .entry) (confidences .entry))) ⌝ }
+    ensures { λ r. ⌜ r ≡ sameOutcome (now (bytes .entry)) start (analyseOutcome answer (lentAll (centres .entry) (values .entry) (energies .entry) (work .entry) (middles .entry) (numbers .entry) (certainties .entry) (starts .entry) (ends .entry) (keys .entry) (confidences .entry))) ⌝ }
 {
     answer_agrees(bytes, start + 1576, answer)
         & frames_agree(bytes, start + 1664, centres, values, energies, work)

@@ -1,12 +1,12 @@
 -- The second clause follows from the first: demand 3 holds of the definition.
 use mathlib.Core.Path.{_≡_, sym, subst}
-use Rattle.calls.specs.Call.{Call}
+use Rattle.calls.specs.Call.{Call, Typed}
 use Rattle.rooms.specs.Lent.{Lent}
-use Rattle.loud_frames.specs.Loud.{Outcome}
+use Rattle.loud_frames.specs.Loud.{AnalyseOutcome}
 use Rattle.analysis.specs.Analyse.{analysed}
-use Rattle.analysis.specs.Demand.{DemandThree, Typed}
+use Rattle.analysis.specs.Demand.{DemandThree}
 use Rattle.analysis.proofs.Demand.{analysis-keeps}
 use Rattle.ulyptesh.specs.Analysis.{Promised}
 
-pub promised : (c : Call) (lent : Lent) {o : Outcome} → Typed (c .settings) → o ≡ analysed c lent → Promised c lent o
+pub promised : (c : Call) (lent : Lent) {o : AnalyseOutcome} → Typed (c .settings) → o ≡ analysed c lent → Promised c lent o
 promised c lent typed e = record { outcome-is = e; demand-three = subst (DemandThree c) (sym e) (analysis-keeps c lent typed) }

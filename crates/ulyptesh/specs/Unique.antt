@@ -6,14 +6,14 @@ use lib.Ieee.{Float}
 use Rattle.calls.specs.Call.{Call}
 use Rattle.calls.specs.Rows.{Rows}
 use Rattle.rooms.specs.Lent.{Lent}
-use Rattle.written.specs.Outcome as bytewise
+use Rattle.written.specs.Outcome.{BytesOutcome}
 use Rattle.name_call.specs.KeyNames.{keyNameOf}
 use Rattle.chroma_calls.specs.declared.KeyResult.{KeyResult}
 use Rattle.chroma_calls.specs.FromChroma.{ScoresOutcome, scoresCall, keyCall}
 use Rattle.frames_call.specs.FramesOnly.{FramesOutcome, framesOnly}
 use Rattle.card_judge.specs.Analysed.{Analysis}
 use Rattle.card_call.specs.Cards.{cardCall}
-use Rattle.loud_frames.specs.Loud.{Outcome}
+use Rattle.loud_frames.specs.Loud.{AnalyseOutcome}
 use Rattle.ulyptesh.specs.Analysis.{Promised}
 
 -- any two outcomes that a promise allows are equal
@@ -30,11 +30,11 @@ KeyUnique = (chroma : List Float) → OneOutcome (λ (o : KeyResult). o ≡ keyC
 
 -- of `ulyptesh_write_key_name`, for every input
 abbrev pub KeyNameUnique : Type 0
-KeyNameUnique = (number : ℕ) (bytes : List ℕ) → OneOutcome (λ (o : bytewise.Outcome). o ≡ keyNameOf number bytes)
+KeyNameUnique = (number : ℕ) (bytes : List ℕ) → OneOutcome (λ (o : BytesOutcome). o ≡ keyNameOf number bytes)
 
 -- of `ulyptesh_write_card`, for every input
 abbrev pub CardUnique : Type 0
-CardUnique = (analysis : Analysis) (bytes : List ℕ) → OneOutcome (λ (o : bytewise.Outcome). o ≡ cardCall analysis bytes)
+CardUnique = (analysis : Analysis) (bytes : List ℕ) → OneOutcome (λ (o : BytesOutcome). o ≡ cardCall analysis bytes)
 
 -- of `ulyptesh_frames`, for every input
 abbrev pub FramesUnique : Type 0

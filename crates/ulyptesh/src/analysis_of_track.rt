@@ -1,7 +1,7 @@
 // The call "analyse".
 ghost use Rattle.calls.specs.Call.{given};
 ghost use Rattle.rooms.specs.Lent.{lentAll};
-ghost use Rattle.loud_frames.specs.Loud.{outcome};
+ghost use Rattle.loud_frames.specs.Loud.{analyseOutcome};
 ghost use Rattle.ulyptesh.specs.Analysis.{Promised};
 use analysis::analyse::analyse;
 use answers::answer::AnalyseResult;
@@ -32,7 +32,7 @@ pub extern "C" fn ulyptesh_analyse(
     keys: &mut [u8],
     confidences: &mut [f32],
 ) -> AnalyseResult
-    ensures { λ r. ⌜ Promised (given settings head (samples .entry) (window .entry) (coefficients .entry) (weights .entry) (lengths .entry) (qcoefficients .entry) (qwindows .entry)) (lentAll (centres .entry) (values .entry) (energies .entry) (work .entry) (middles .entry) (numbers .entry) (certainties .entry) (starts .entry) (ends .entry) (keys .entry) (confidences .entry)) (outcome r (lentAll (centres .exit) (values .exit) (energies .exit) (work .exit) (middles .exit) (numbers .exit) (certainties .exit) (starts .exit) (ends .exit) (keys .exit) (confidences .exit))) ⌝ }
+    ensures { λ r. ⌜ Promised (given settings head (samples .entry) (window .entry) (coefficients .entry) (weights .entry) (lengths .entry) (qcoefficients .entry) (qwindows .entry)) (lentAll (centres .entry) (values .entry) (energies .entry) (work .entry) (middles .entry) (numbers .entry) (certainties .entry) (starts .entry) (ends .entry) (keys .entry) (confidences .entry)) (analyseOutcome r (lentAll (centres .exit) (values .exit) (energies .exit) (work .exit) (middles .exit) (numbers .exit) (certainties .exit) (starts .exit) (ends .exit) (keys .exit) (confidences .exit))) ⌝ }
 {
     analyse(
         settings,

@@ -1,7 +1,7 @@
 // The call "write a card".
 ghost use mathlib.Core.Path.{_≡_};
 ghost use Rattle.card_judge.specs.Analysed.{analysis};
-ghost use Rattle.written.specs.Outcome.{outcome};
+ghost use Rattle.written.specs.Outcome.{bytesOutcome};
 ghost use Rattle.card_call.specs.Cards.{overall, cardCall};
 use card_call::write_analysed_card;
 use written::Written;
@@ -21,7 +21,7 @@ pub extern "C" fn ulyptesh_write_card(
     confidences: &[f32],
     bytes: &mut [u8],
 ) -> Written
-    ensures { λ r. ⌜ outcome r (now (bytes .exit)) ≡ cardCall (analysis (overall key dsp alternate coverage confidence) (now (starts .entry)) (now (ends .entry)) (now (keys .entry)) (now (confidences .entry))) (now (bytes .entry)) ⌝ }
+    ensures { λ r. ⌜ bytesOutcome r (now (bytes .exit)) ≡ cardCall (analysis (overall key dsp alternate coverage confidence) (now (starts .entry)) (now (ends .entry)) (now (keys .entry)) (now (confidences .entry))) (now (bytes .entry)) ⌝ }
 {
     write_analysed_card(
         key,

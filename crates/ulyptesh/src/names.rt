@@ -1,6 +1,6 @@
 // The call "write a key name".
 ghost use mathlib.Core.Path.{_≡_};
-ghost use Rattle.written.specs.Outcome.{outcome};
+ghost use Rattle.written.specs.Outcome.{bytesOutcome};
 ghost use Rattle.name_call.specs.KeyNames.{keyNameOf};
 use name_call::write_key_name;
 use written::Written;
@@ -9,7 +9,7 @@ use written::Written;
 // 23, 12 too few bytes.
 #[no_mangle]
 pub extern "C" fn ulyptesh_write_key_name(number: u32, bytes: &mut [u8]) -> Written
-    ensures { λ r. ⌜ outcome r (now (bytes .exit)) ≡ keyNameOf number (now (bytes .entry)) ⌝ }
+    ensures { λ r. ⌜ bytesOutcome r (now (bytes .exit)) ≡ keyNameOf number (now (bytes .entry)) ⌝ }
 {
     write_key_name(number, bytes)
 }

@@ -8,10 +8,10 @@ abbrev pub answered : ℕ → ℕ → Written
 answered refusal count = record { refusal = refusal; length = count }
 
 -- what the call answers, and what it leaves in the lent bytes
-pub record Outcome : Type 0 where
+pub record BytesOutcome : Type 0 where
   pub answer : Written
   pub bytes : List ℕ
 
 -- both together
-abbrev pub outcome : Written → List ℕ → Outcome
-outcome answer bytes = record { answer = answer; bytes = bytes }
+abbrev pub bytesOutcome : Written → List ℕ → BytesOutcome
+bytesOutcome answer bytes = record { answer = answer; bytes = bytes }

@@ -1,8 +1,7 @@
 -- The call's own promise, and demand 3 with it.
 use borrow.Author.Needs.{needs}
-use Rattle.calls.specs.Call.{given}
+use Rattle.calls.specs.Call.{given, Typed}
 use Rattle.rooms.specs.Lent.{lentAll}
-use Rattle.analysis.specs.Demand.{Typed}
 use Rattle.ulyptesh.proofs.Analyses.{promised}
 use Rattle.ulyptesh.proofs.analysis_of_track.ulyptesh_analyse.Statement.{statement}
 use Rattle.ulyptesh.proofs.analysis_of_track.ulyptesh_analyse.Tie as tie
