@@ -44,7 +44,7 @@ use Rattle.alternates.specs.declared.alternate.Alternate.the-variants.{Nobody, 
 use Rattle.alternates.proofs.Named.{named-exactly}
 use Rattle.alternates.proofs.Tiled.{tiled-total-finite}
 use Rattle.verdicts.specs.Verdict.{faint, verdictOf}
-use Rattle.answers.specs.Answer.{counts, keyless, withKey}
+use Rattle.answers.specs.Answer.{counts, keyless, withAlternate}
 use Rattle.answers.specs.declared.answer.Counts.{Counts}
 use Rattle.verdicts.specs.declared.verdict.Verdict.{Verdict}
 use Rattle.rooms.specs.Lent.{Lent, withFrames, withSegments, workZeroed}
@@ -79,7 +79,7 @@ named-otherwise Nobody none below = (refl, refl)
 named-otherwise (Named key coverage) none below = absurd (none (below key coverage refl))
 
 alternating : (threshold : Float) (v : Verdict) (c : Counts) (segments : List Segment) → ((reported : ℕ) → Exactly reported threshold segments) → Alternating threshold (namedIn threshold v c segments) segments
-unfolding namedIn withKey
+unfolding namedIn withAlternate
 alternating threshold v c segments exactly =
     let reported = keyNumber (reportedOf (v .key) segments) in
     let named = alternateOf reported threshold segments in
@@ -90,7 +90,7 @@ alternating threshold v c segments exactly =
     }
 
 longest-answered : (threshold : Float) (v : Verdict) (c : Counts) (segments : List Segment) → LongestAnswered (namedIn threshold v c segments) segments
-unfolding namedIn withKey
+unfolding namedIn withAlternate
 longest-answered threshold v c segments several = let told = longest-reported (v .key) segments several in (told .0, told .1, ap keyNumber (told .2))
 
 -- ---- the ways through a call
@@ -127,7 +127,7 @@ module _ (c : Call) (typed : Typed (c .settings)) {crowded : Bool} {positions : 
       let track = trackOf s span v in
       let segments = segmentsOf track found in
       DemandThree c (reportLeft l (report (namedIn (s .«alternate_coverage_threshold») v (counts (h .frames) (length found) (length segments)) segments) found (leftIn (s .«minimum_segment_seconds») (cutOf track found))))
-  unfolding namedIn withKey
+  unfolding namedIn withAlternate
   told-keeps v h l = λ _.
       let found = estimatesOf span h in
       let track = trackOf s span v in

@@ -1,5 +1,6 @@
 -- What an analysis answers, as numbers. Definitions only.
 use Prim.Native.Nat.{ℕ}
+use mathlib.Core.List.{List}
 use lib.ListN.{replicate}
 use lib.Ieee.{Float}
 use Rattle.laws.specs.Values.{plusZero}
@@ -15,40 +16,27 @@ use Rattle.verdicts.specs.declared.verdict.Verdict.{Verdict}
 abbrev pub counts : ℕ → ℕ → ℕ → Counts
 counts frames estimates segments = record { frames = frames; estimates = estimates; segments = segments }
 
--- a refusal, or 0 for the empty analysis; the position that 9 names; the frames and estimates that are written
-unfoldable pub keyless : ℕ → ℕ → ℕ → ℕ → AnalyseResult
-keyless refusal position frames estimates =
+-- an answer from its numbers: 01's number, or 0; the position that 9 names; the key, which without a reranker is the DSP key too; the alternate and its coverage
+abbrev pub answerOf : ℕ → ℕ → ℕ → ℕ → Float → Float → Counts → List Float → AnalyseResult
+answerOf refusal position key alternate coverage confidence c chroma =
     record {
       refusal = refusal;
       position = position;
-      key = 24;
-      «dsp_key» = 24;
-      alternate = 24;
-      coverage = plusZero;
-      confidence = plusZero;
-      frames = frames;
-      estimates = estimates;
-      segments = 0;
-      chroma = replicate 12 plusZero;
-    }
-
--- an analysis with a key; without a reranker the DSP key is the reported one
-unfoldable pub withKey : Verdict → Key → Counts → ℕ → Float → AnalyseResult
-withKey v reported c alternate coverage =
-    record {
-      refusal = 0;
-      position = 0;
-      key = keyNumber reported;
-      «dsp_key» = keyNumber reported;
+      key = key;
+      «dsp_key» = key;
       alternate = alternate;
       coverage = coverage;
-      confidence = v .confidence;
+      confidence = confidence;
       frames = c .frames;
       estimates = c .estimates;
       segments = c .segments;
-      chroma = v .chroma;
+      chroma = chroma;
     }
 
--- by the alternate that is named or not
-abbrev pub withAlternate : Verdict → Key → Counts → Alternate → AnalyseResult
-withAlternate v reported c other = withKey v reported c (alternateNumber other) (alternateCoverage other)
+-- without a key: a refusal, or 0 for the empty analysis
+unfoldable pub keyless : ℕ → ℕ → ℕ → ℕ → AnalyseResult
+keyless refusal position frames estimates = answerOf refusal position 24 24 plusZero plusZero (counts frames estimates 0) (replicate 12 plusZero)
+
+-- with the reported key, and the alternate that is named or not
+unfoldable pub withAlternate : Verdict → Key → Counts → Alternate → AnalyseResult
+withAlternate v reported c other = answerOf 0 0 (keyNumber reported) (alternateNumber other) (alternateCoverage other) (v .confidence) c (v .chroma)

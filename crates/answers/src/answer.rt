@@ -1,6 +1,7 @@
 // What an analysis answers, as numbers.
 ghost use mathlib.Core.Path.{_≡_};
-ghost use Rattle.answers.specs.Answer.{keyless, withKey, withAlternate};
+ghost use Rattle.keys.specs.Numbers.{keyNumber};
+ghost use Rattle.answers.specs.Answer.{answerOf, keyless, withAlternate};
 use alternates::alternate::Alternate;
 use keys::Key;
 use keys::numbers::key_number;
@@ -56,7 +57,7 @@ fn with_key(
     alternate: u32,
     coverage: f32,
 ) -> AnalyseResult
-    ensures { λ r. ⌜ r ≡ withKey verdict reported counts alternate coverage ⌝ }
+    ensures { λ r. ⌜ r ≡ answerOf 0 0 (keyNumber reported) alternate coverage (verdict .confidence) counts (verdict .chroma) ⌝ }
 {
     let key = key_number(reported) as u32;
     let chroma = verdict.chroma;

@@ -6,8 +6,8 @@ use native.Mathlib.Omega.{arith}
 use lib.ListN.{getD}
 use lib.Ieee.{Float, nan}
 use Rattle.laws.specs.Turns.{turns}
-use Rattle.laws.proofs.Turns.{turns-part}
-use Rattle.gathering.specs.Gather.{Heard, gatherTurn, noneGathered, gatheredOf}
+use Rattle.laws.proofs.Turns.{turns-start, turns-part}
+use Rattle.gathering.specs.Gather.{Heard, gatherTurn, noneGathered, gatheredAfter, gatheredOf}
 use Rattle.gathering.specs.declared.gather.Gathered.{Gathered}
 
 -- as many frames, and each with the same centre and chroma
@@ -22,7 +22,9 @@ module _ {h k : Heard} (alike : Alike h k) (start end : Float) where
   same-turn i g inside = rw (alike .centres i (omega arith), alike .values i (omega arith))
 
   pub gathered-alike : gatheredOf h start end ≡ gatheredOf k start end
-  unfolding gatheredOf
+  unfolding gatheredAfter
   gathered-alike =
-      turns-part (λ (g : Gathered). g) (gatherTurn h start end) (gatherTurn k start end) (h .frames) 0 same-turn noneGathered
+      turns-start (gatherTurn h start end) (h .frames) noneGathered
+      ∙ turns-part (λ (g : Gathered). g) (gatherTurn h start end) (gatherTurn k start end) (h .frames) 0 same-turn noneGathered
       ∙ ap (λ (n : ℕ). turns (gatherTurn k start end) n 0 noneGathered) (alike .frames)
+      ∙ sym (turns-start (gatherTurn k start end) (k .frames) noneGathered)

@@ -14,7 +14,7 @@ use Rattle.laws.proofs.Cases.{same-test, lt-or-ge}
 use Rattle.laws.proofs.Every.{handed-on}
 use Rattle.laws.proofs.First.{first-before, first-or-end, first-within, first-from}
 use Rattle.laws.proofs.Order.{lt→le, le-trans, lt-of-le-of-lt}
-use Rattle.laws.proofs.Turns.{turns-between}
+use Rattle.laws.proofs.Turns.{turns-start, turns-between}
 use Rattle.gathering.specs.Gather.{Heard, heard, within, withFrame, noneGathered, gatherTurn, gatheredOf, gatheredAfter}
 use Rattle.gathering.specs.Ahead.{rises, aheadOf, isFrom, firstFrom, skippedTo, isPast, stopOf, Known}
 use Rattle.gathering.specs.declared.ahead.Ahead.{Ahead}
@@ -109,10 +109,11 @@ module _ {h : Heard} {a : Ahead} {start : Float} (known : Known h a start) (end 
   before-start k l = ap (λ (b : Bool). b && lt (getD (h .centres) k nan) end) (known .behind k l)
 
   pub gathered-all : {stop : ℕ} {g : Gathered} → stop ≡ stopOf a end (h .centres) → g ≡ gatheredAfter (heard stop (h .centres) (h .values)) (a .from) start end → g ≡ gatheredOf h start end
-  unfolding gatheredOf gatheredAfter gatherTurn
+  unfolding gatheredAfter gatherTurn
   gathered-all {stop} at e =
       let s : Stops h a end stop = subst (Stops h a end) (sym at) stops in
       e
       ∙ turns-between (gatherTurn h start end) (h .frames) (a .from) stop noneGathered (s .low) (s .high)
       (λ k l g. idle k g (before-start k l))
       (λ k l less g. idle k g (not-both (le start (getD (h .centres) k nan)) (lt (getD (h .centres) k nan) end) (s .past k l less)))
+      ∙ sym (turns-start (gatherTurn h start end) (h .frames) noneGathered)

@@ -3,10 +3,10 @@ use Prim.Native.Nat.{ℕ, _+_, _-_}
 use mathlib.Core.Bool.{Bool, cond, _&&_}
 use mathlib.Core.List.{List, []}
 use lib.ListN.{getD, replicate}
-use lib.Ieee.{Float, nan, binary32, add, lt, le}
-use Rattle.laws.specs.Front.{list}
+use lib.Ieee.{Float, nan, lt, le}
 use Rattle.laws.specs.Turns.{turns}
 use Rattle.laws.specs.Values.{plusZero}
+use Rattle.numbers.specs.Sum.{addedEach}
 use Rattle.gathering.specs.declared.gather.Gathered.{Gathered}
 
 -- the loud frames: so many, each with its centre and its chroma
@@ -23,17 +23,13 @@ heard frames centres values = record { frames = frames; centres = centres; value
 abbrev pub within : Float → Float → Float → Bool
 within start end centre = le start centre && lt centre end
 
--- twelve sums, each with one value more
-unfoldable pub addedTo : List Float → List Float → List Float
-addedTo sums values = list (λ (i : ℕ). add binary32 (getD sums i nan) (getD values i nan)) 12
-
 -- the same of what is gathered, from its parts
 abbrev pub gathered : List Float → ℕ → Gathered
 gathered chroma frames = record { chroma = chroma; frames = frames }
 
 -- one frame more
 abbrev pub withFrame : List Float → Gathered → Gathered
-withFrame values g = gathered (addedTo (g .chroma) values) (g .frames + 1)
+withFrame values g = gathered (addedEach (g .chroma) values) (g .frames + 1)
 
 -- frame i counts where its centre is within
 unfoldable pub gatherTurn : Heard → Float → Float → ℕ → Gathered → Gathered
@@ -43,10 +39,10 @@ gatherTurn h start end i g = cond (within start end (getD (h .centres) i nan)) (
 abbrev pub noneGathered : Gathered
 noneGathered = gathered (replicate 12 plusZero) 0
 
--- the chromas of the frames within, summed in order from +0, and how many they are
-unfoldable pub gatheredOf : Heard → Float → Float → Gathered
-gatheredOf h start end = turns (gatherTurn h start end) (h .frames) 0 noneGathered
-
--- the same over the frames from `from` on
+-- the chromas of the frames within from `from` on, summed in order from +0, and how many they are
 unfoldable pub gatheredAfter : Heard → ℕ → Float → Float → Gathered
 gatheredAfter h from start end = turns (gatherTurn h start end) (h .frames - from) from noneGathered
+
+-- of all frames
+abbrev pub gatheredOf : Heard → Float → Float → Gathered
+gatheredOf h start end = gatheredAfter h 0 start end

@@ -2,10 +2,11 @@
 ghost use mathlib.Core.Path.{_≡_};
 ghost use Prim.Native.Nat.{_+_, _^_, _<_, _≤_};
 ghost use lib.ListN.{length};
-ghost use Rattle.gathering.specs.Gather.{heard, within, addedTo, withFrame, gatheredOf, gatheredAfter};
+ghost use Rattle.gathering.specs.Gather.{heard, within, withFrame, gatheredOf, gatheredAfter};
 ghost use Rattle.gathering.specs.Ahead.{Known};
 use crate::ahead::Ahead;
 use crate::ahead::find_stop;
+use numbers::twelve::add_twelve;
 
 // The sums of the twelve values, and how many frames are in them.
 pub struct Gathered {
@@ -20,30 +21,15 @@ fn is_within(start: f64, end: f64, centre: f64) -> bool
     (start <= centre) & (centre < end)
 }
 
-// Each value added to its sum.
-fn add_values(sums: [f32; 12], values: [f32; 12]) -> [f32; 12]
-    ensures { λ r. ⌜ r ≡ addedTo sums values ⌝ }
-{
-    let mut added = [0.0; 12];
-    let mut i = 0;
-    while i < 12 {
-        added[i] = sums[i] + values[i];
-        i += 1;
-    }
-    added
-}
-
 // One frame more.
 fn with_frame(gathered: Gathered, values: [f32; 12]) -> Gathered
     requires { ⌜ gathered .frames + 1 < 2 ^ 64 ⌝ }
     ensures { λ r. ⌜ r ≡ withFrame values gathered ⌝ }
 {
+    let frames = gathered.frames + 1;
     let sums = gathered.chroma;
-    let chroma = add_values(sums, values);
-    Gathered {
-        chroma,
-        frames: gathered.frames + 1,
-    }
+    let chroma = add_twelve(&sums, &values);
+    Gathered { chroma, frames }
 }
 
 // The chromas of the frames from `from` on and before `stop` with a centre within, summed in order from +0.

@@ -1,7 +1,7 @@
 // Twelve floats, one for each pitch class.
 ghost use mathlib.Core.Path.{_≡_};
 ghost use lib.ListN.{length};
-ghost use Rattle.numbers.specs.Sum.{sumOf};
+ghost use Rattle.numbers.specs.Sum.{sumOf, addedEach};
 
 // The Rust's `values.iter().sum()`.
 pub fn sum_of_twelve(values: &[f32; 12]) -> f32
@@ -28,4 +28,17 @@ pub fn twelve_values(slice: &[f32]) -> [f32; 12]
         i += 1;
     }
     values
+}
+
+// Twelve sums, each with one value more.
+pub fn add_twelve(sums: &[f32; 12], more: &[f32; 12]) -> [f32; 12]
+    ensures { λ r. ⌜ r ≡ addedEach (now (sums .entry)) (now (more .entry)) ⌝ }
+{
+    let mut added = [0.0; 12];
+    let mut i = 0;
+    while i < 12 {
+        added[i] = sums[i] + more[i];
+        i += 1;
+    }
+    added
 }

@@ -14,13 +14,14 @@ use Rattle.correlations.specs.Correlation.{correlationOf}
 use Rattle.correlations.specs.Distances.{distancesOf, energyOf, wheelOf}
 use Rattle.correlations.specs.Lanes.{turnedOf}
 use Rattle.scores.specs.Profiles.{profileAt}
-use Rattle.scores.specs.Modes.{addedAll, modeTurn, noSums, modeSums}
+use Rattle.numbers.specs.Sum.{addedEach}
+use Rattle.scores.specs.Modes.{modeTurn, noSums, modeSums}
 use Rattle.scores.specs.Scores.{scoreTurn, scoreOf, scoreAt, scoresOf}
 use Rattle.correlations.proofs.Turned.{turned-is}
 
 -- the sum for one root
 mode-sum : (chroma : List Float) (mode root : ℕ) → root < 12 → getD (modeSums (distancesOf chroma) (energyOf (distancesOf chroma)) mode) root nan ≡ turns (scoreTurn chroma mode root) 4 0 plusZero
-unfolding modeSums modeTurn addedAll list
+unfolding modeSums modeTurn addedEach list
 mode-sum chroma mode root h =
     let away = distancesOf chroma in
     let more : (p : ℕ) → getD (turnedOf away (energyOf away) (wheelOf (profileAt (2 * p + mode)))) root nan ≡ correlationOf chroma (profileAt (2 * p + mode)) root =

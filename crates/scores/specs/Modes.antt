@@ -1,22 +1,17 @@
 -- The correlations with the four profiles of a mode, summed at all roots together. Definitions only.
 use Prim.Native.Nat.{ℕ, _+_, _*_}
 use mathlib.Core.List.{List}
-use lib.ListN.{getD}
-use lib.Ieee.{Float, nan, binary32, add}
+use lib.Ieee.{Float}
 use Rattle.laws.specs.Turns.{turns}
-use Rattle.laws.specs.Front.{list}
 use Rattle.laws.specs.Values.{plusZero}
+use Rattle.numbers.specs.Sum.{addedEach}
 use Rattle.correlations.specs.Distances.{wheelOf}
 use Rattle.correlations.specs.Lanes.{alike, twelve, turnedOf}
 use Rattle.scores.specs.Profiles.{profileAt}
 
--- twelve sums with one value more each
-unfoldable pub addedAll : List Float → List Float → List Float
-addedAll sums more = list (λ (i : ℕ). add binary32 (getD sums i nan) (getD more i nan)) 12
-
 -- profile p of the mode
 unfoldable pub modeTurn : List Float → Float → ℕ → ℕ → List Float → List Float
-modeTurn away chroma mode p sums = addedAll sums (turnedOf away chroma (wheelOf (profileAt (2 * p + mode))))
+modeTurn away chroma mode p sums = addedEach sums (turnedOf away chroma (wheelOf (profileAt (2 * p + mode))))
 
 -- twelve sums of nothing
 abbrev pub noSums : List Float

@@ -3,13 +3,14 @@ ghost use mathlib.Core.Path.{_≡_};
 ghost use Prim.Native.Nat.{_<_};
 ghost use Rattle.scores.specs.Profiles.{profileAt};
 ghost use Rattle.correlations.specs.Distances.{wheelOf};
-ghost use Rattle.scores.specs.Modes.{addedAll, modeSums};
+ghost use Rattle.scores.specs.Modes.{modeSums};
 ghost use Rattle.scores.specs.Scores.{scoresOf};
 use crate::profiles::PROFILES;
 use correlations::correlation::correlations;
 use correlations::distances::distances;
 use correlations::distances::energy;
 use correlations::distances::wheel;
+use numbers::twelve::add_twelve;
 
 // The wheel of the profile in a row of the table.
 fn wheel_at(row: usize) -> [f32; 23]
@@ -18,19 +19,6 @@ fn wheel_at(row: usize) -> [f32; 23]
 {
     let profile = PROFILES[row];
     wheel(&profile)
-}
-
-// Twelve sums with one value more each.
-fn add_twelve(sums: &[f32; 12], more: &[f32; 12]) -> [f32; 12]
-    ensures { λ r. ⌜ r ≡ addedAll (now (sums .entry)) (now (more .entry)) ⌝ }
-{
-    let mut added = [0.0; 12];
-    let mut i = 0;
-    while i < 12 {
-        added[i] = sums[i] + more[i];
-        i += 1;
-    }
-    added
 }
 
 // The correlations with the four profiles of a mode together, by root; 0 is major and 1 is minor.

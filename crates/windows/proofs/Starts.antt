@@ -11,7 +11,7 @@ use Rattle.laws.specs.Values.{plusZero, clear}
 use Rattle.laws.proofs.Turns.{turns-last}
 use Rattle.laws.proofs.Nonneg.{add-clear}
 use Rattle.laws.proofs.Zero.{plusZero-held, add-right}
-use Rattle.windows.specs.Span.{startTurn, startOf, overhangs, endsAt}
+use Rattle.windows.specs.Span.{startOf, overhangs, endsAt}
 use Rattle.windows.specs.Run.{stays, stuckAt}
 use Rattle.windows.specs.declared.span.Span.{Span}
 
@@ -22,7 +22,7 @@ start-first s = refl
 module _ (s : Span) (k : ℕ) {start : Float} (here : start ≡ startOf s k) where
   pub start-next : add binary64 start (s .hop) ≡ startOf s (k + 1)
   unfolding startOf
-  start-next = ap (λ (x : Float). add binary64 x (s .hop)) here ∙ sym (turns-last (startTurn s) k plusZero)
+  start-next = ap (λ (x : Float). add binary64 x (s .hop)) here ∙ sym (turns-last (λ (_ : ℕ) (start : Float). add binary64 start (s .hop)) k plusZero)
 
   -- a test of the start that is carried is the test of window k
   pub ends-here : {answer : Bool} → overhangs s start ≡ answer → endsAt s k ≡ answer

@@ -23,13 +23,9 @@ spanOf s count =
 unfoldable pub brief : Span → Bool
 brief s = lt (s .duration) (add binary64 (s .window) (s .hop))
 
--- the start after this one
-abbrev pub startTurn : Span → ℕ → Float → Float
-startTurn s k start = add binary64 start (s .hop)
-
 -- the start of window k: the hop added k times to +0
 unfoldable pub startOf : Span → ℕ → Float
-startOf s k = turns (startTurn s) k 0 plusZero
+startOf s k = turns (λ (_ : ℕ) (start : Float). add binary64 start (s .hop)) k 0 plusZero
 
 -- the window that starts there ends after the duration
 abbrev pub overhangs : Span → Float → Bool

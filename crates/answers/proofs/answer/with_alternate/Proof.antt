@@ -1,6 +1,7 @@
 -- An arm for each answer.
 use borrow.Author.Needs.{needs}
 use lib.Ieee.{ofBits}
+use Rattle.answers.specs.Answer.{withAlternate}
 use Rattle.answers.proofs.answer.with_alternate.Statement.{statement}
 use Rattle.answers.proofs.answer.with_alternate.Tie as tie
 
@@ -20,11 +21,12 @@ with-key-requires-2 : tie.Need-with-key-requires-2
 with-key-requires-2 c κs = search needs
 
 returns : tie.Need-returns
-unfolding ofBits
+unfolding ofBits withAlternate
 returns c = rw (c .before .enum-told .given .1) (c .with-key .ensures)
 
 returns-2 : tie.Need-returns-2
-returns-2 c = cc
+unfolding withAlternate
+returns-2 c = rw (c .before .before .other .given .1) (c .with-key2 .ensures)
 
 pub with-alternate-spec : {M : Type 1} → statement M
 with-alternate-spec =

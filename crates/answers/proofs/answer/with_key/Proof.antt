@@ -1,6 +1,5 @@
 -- The answer is written out; a key number stays what it is in more bits.
 use borrow.Author.Needs.{needs}
-use Rattle.answers.specs.Answer.{withKey}
 use Rattle.answers.proofs.answer.with_key.Statement.{statement}
 use Rattle.answers.proofs.answer.with_key.Tie as tie
 
@@ -11,8 +10,7 @@ cast-key : tie.Need-cast-key
 cast-key c = search needs
 
 returns : tie.Need-returns
-unfolding withKey
-returns c = cc
+returns c = rw (c .before .key-number .ensures)
 
 pub with-key-spec : {M : Type 1} → statement M
 with-key-spec = tie.close (tie.spec key-number-requires cast-key returns)

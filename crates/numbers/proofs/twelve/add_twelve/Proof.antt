@@ -6,9 +6,9 @@ use Prim.Native.Nat.{ℕ, _≤_, _-_}
 use lib.ListN.{getD}
 use lib.Ieee.{nan, binary32, add}
 use Rattle.laws.proofs.Front.{Filled, filled-start, filled-more, filled-whole}
-use Rattle.scores.specs.Modes.{addedAll}
-use Rattle.scores.proofs.scoring.add_twelve.Statement.{statement}
-use Rattle.scores.proofs.scoring.add_twelve.Tie as tie
+use Rattle.numbers.specs.Sum.{addedEach}
+use Rattle.numbers.proofs.twelve.add_twelve.Statement.{statement}
+use Rattle.numbers.proofs.twelve.add_twelve.Tie as tie
 
 abbrev Inv-loop : tie.InvT-loop
 Inv-loop sums more added₀ i₀ added i = (i ≤ 12) × Filled (λ (j : ℕ). add binary32 (getD sums j nan) (getD more j nan)) added₀ added i
@@ -47,7 +47,7 @@ loop-again : tie.Need-loop-again Inv-loop μ-loop
 loop-again c = (omega arith, filled-more _ _ _ (c .before .before .before .loop .i) (c .before .before .before .loop .inv .1) (omega arith))
 
 returns : tie.Need-returns Inv-loop μ-loop
-unfolding addedAll
+unfolding addedEach
 returns c = filled-whole _ _ _ (c .before .loop .i) 12 (c .before .loop .inv .1) (omega arith) refl
 
 pub add-twelve-spec : {M : Type 1} → statement M
