@@ -1,4 +1,4 @@
--- The constant-Q chromas of eight frame positions, a hop apart, each by its own definition. Definitions only.
+-- Only for the code's own steps: no promise names it. The constant-Q chromas of eight frame positions, a hop apart, each by its own definition. Definitions only.
 use mathlib.Core.Path.{_≡_}
 use Prim.Native.Nat.{ℕ, _+_, _-_, _*_, _/_, _≤_}
 use mathlib.Core.Bool.{Bool, true, _&&_}
@@ -8,6 +8,7 @@ use lib.ListN.{length, getD}
 use lib.Ieee.{Float, nan}
 use Rattle.laws.specs.Front.{list}
 use Rattle.laws.specs.Every.{everyEntry}
+use Rattle.calls.specs.Call.{Sheet}
 use Rattle.sheets.specs.Sheet.{joinedLength}
 use Rattle.filters.specs.Classes.{noSums, classAdded}
 use Rattle.constant_q.specs.ConstantQ.{constantQOf}
@@ -41,5 +42,5 @@ unfoldable pub rowAdded : ℕ → ℕ → List Float → List (List Float) → L
 rowAdded lowest k powers block = list (λ (j : ℕ). classAdded lowest k (getD powers j nan) (getD block j [])) 8
 
 -- the chromas of eight positions
-unfoldable pub chromasOf : ℕ → List ℕ → List Float → List Float → List Float → ℕ → ℕ → List (List Float)
-chromasOf lowest lengths coefficients windows samples centre hop = list (λ (j : ℕ). constantQOf lowest lengths coefficients windows samples (centreAt centre hop j)) 8
+unfoldable pub chromasOf : Sheet → List Float → ℕ → ℕ → List (List Float)
+chromasOf s samples centre hop = list (λ (j : ℕ). constantQOf s samples (centreAt centre hop j)) 8

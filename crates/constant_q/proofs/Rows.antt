@@ -15,28 +15,31 @@ use Rattle.constant_q.specs.inside.Lanes.{lanePower}
 use Rattle.constant_q.specs.inside.Powers.{constantQRows, powerAt, powersOf, listedTurn, powersByClass}
 
 -- a sheet's chroma is that of its rows
-pub by-rows : (s : Sheet) (samples : List Float) (centre : ℕ) → constantQOf (constantQRows (s .head .«minimum_midi_note») (s .constantQLengths) (s .constantQCoefficients) (s .constantQWindows)) samples centre ≡ constantQOf s samples centre
+pub constant-q-by-rows : (s : Sheet) (samples : List Float) (centre : ℕ) → constantQOf (constantQRows (s .head .«minimum_midi_note») (s .constantQLengths) (s .constantQCoefficients) (s .constantQWindows)) samples centre ≡ constantQOf s samples centre
 unfolding constantQOf rowPower
-by-rows s samples centre = refl
+constant-q-by-rows s samples centre = refl
 
-module _ (lowest : ℕ) (lengths : List ℕ) (coefficients windows samples : List Float) (centre : ℕ) where
-  abbrev sheet : Sheet
-  sheet = constantQRows lowest lengths coefficients windows
+module _ (s : Sheet) (samples : List Float) (centre : ℕ) where
+  abbrev power : ℕ → Float
+  power = powerAt samples centre (s .constantQLengths) (s .constantQCoefficients) (s .constantQWindows)
+
+  abbrev powers : List Float
+  powers = powersOf samples centre (s .constantQLengths) (s .constantQCoefficients) (s .constantQWindows)
 
   -- the power of a row is that of its lane
-  pub power-of-row : (k : ℕ) → powerAt samples centre lengths coefficients windows k ≡ rowPower sheet samples centre k
+  pub power-of-row : (k : ℕ) → power k ≡ rowPower s samples centre k
   unfolding rowPower lanePower
   power-of-row k = refl
 
-  abbrev powers : List Float
-  powers = powersOf samples centre lengths coefficients windows
+  abbrev listed : ℕ → List Float → List Float
+  listed = listedTurn (s .head .«minimum_midi_note») (length samples) centre (s .constantQLengths) powers
 
-  same-turn : (k : ℕ) (sums : List Float) → k < length lengths → listedTurn lowest (length samples) centre lengths powers k sums ≡ powerTurn sheet samples centre k sums
+  same-turn : (k : ℕ) (sums : List Float) → k < length (s .constantQLengths) → listed k sums ≡ powerTurn s samples centre k sums
   unfolding powersOf
-  same-turn k sums h = rw (getD-list (powerAt samples centre lengths coefficients windows) (length lengths) k nan h, power-of-row k) refl
+  same-turn k sums h = rw (getD-list power (length (s .constantQLengths)) k nan h, power-of-row k) refl
 
-  pub from-powers : powersByClass lowest (length samples) centre lengths powers ≡ constantQOf sheet samples centre
+  pub from-powers : powersByClass (s .head .«minimum_midi_note») (length samples) centre (s .constantQLengths) powers ≡ constantQOf s samples centre
   unfolding powersByClass powersOf constantQOf
   from-powers =
-      rw (length-list (powerAt samples centre lengths coefficients windows) (length lengths))
-      (turns-part (λ (sums : List Float). sums) (listedTurn lowest (length samples) centre lengths powers) (powerTurn sheet samples centre) (length lengths) 0 (λ k sums h. same-turn k sums (omega arith)) noSums)
+      rw (length-list power (length (s .constantQLengths)))
+      (turns-part (λ (sums : List Float). sums) listed (powerTurn s samples centre) (length (s .constantQLengths)) 0 (λ k sums h. same-turn k sums (omega arith)) noSums)

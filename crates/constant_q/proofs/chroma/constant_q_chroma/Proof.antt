@@ -7,7 +7,7 @@ use Prim.Native.Nat.{ℕ}
 use mathlib.Core.Path.{_≡_, sym, _∙_}
 use lib.ListN.{length}
 use lib.Ieee.{Float}
-use Rattle.constant_q.specs.inside.Powers.{powerAt, powersOf}
+use Rattle.constant_q.specs.inside.Powers.{constantQRows, powerAt, powersOf}
 use lib.ListN.{take}
 use Rattle.constant_q.proofs.Rows.{from-powers}
 use Rattle.filters.proofs.Rooms.{read-back, read-long}
@@ -44,7 +44,7 @@ sum-powers-requires : tie.Need-sum-powers-requires
 sum-powers-requires c κs = let l = long (c .before .before) in (omega arith, omega arith, omega arith)
 
 returns : tie.Need-returns
-returns c = let a = start (c .before .before .before) .args in c .sum-powers .ensures ∙ rw (back (c .before .before .before)) (from-powers (a .lowest) (a .lengths .now) (a .coefficients .now) (a .windows .now) (a .samples .now) (a .centre))
+returns c = let a = start (c .before .before .before) .args in c .sum-powers .ensures ∙ rw (back (c .before .before .before)) (from-powers (constantQRows (a .lowest) (a .lengths .now) (a .coefficients .now) (a .windows .now)) (a .samples .now) (a .centre))
 
 pub constant-q-chroma-spec : {M : Type 1} → statement M
 constant-q-chroma-spec =
