@@ -1,2 +1,2 @@
 mod Resonators
-pub mod Rows
+pub mod Alone

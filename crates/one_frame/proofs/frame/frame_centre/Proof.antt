@@ -1,5 +1,5 @@
 -- `frame_centre` meets its contract: std rounds both numbers.
-use Rattle.one_frame.specs.Frame.{centreOf}
+use Rattle.one_frame.specs.Frame.{secondsAt}
 use borrow.Author.Needs.{needs}
 use Rattle.one_frame.proofs.frame.frame_centre.Statement.{statement}
 use Rattle.one_frame.proofs.frame.frame_centre.Tie as tie
@@ -17,7 +17,7 @@ nearest-u64-to-f64-requires-2 : tie.Need-nearest-u64-to-f64-requires-2
 nearest-u64-to-f64-requires-2 c κs = search needs
 
 returns : tie.Need-returns
-unfolding centreOf
+unfolding secondsAt
 returns c = cc
 
 pub frame-centre-spec : {M : Type 1} → statement M
