@@ -25,7 +25,7 @@ use Rattle.constant_q.specs.declared.lanes.Lane.{Lane}
 use Rattle.constant_q.proofs.Spans.{joined-within}
 use Rattle.constant_q.proofs.Rows.{power-of-row}
 use Rattle.blocks.specs.Eight.{laterBy, EightLie, eightPowers}
-use Rattle.blocks.specs.Block.{centreAt, wholeAt, allWhole, Inside, emptyBlock, rowAdded, chromasOf}
+use Rattle.blocks.specs.Block.{laterCentre, wholeAt, allWhole, Inside, emptyBlock, rowAdded, chromasOf}
 
 -- a window that is whole at eight positions
 pub record Whole (samples centre hop size : ℕ) : Type 0 where
@@ -61,7 +61,7 @@ module _ {samples centre hop size : ℕ} (w : Whole samples centre hop size) (by
 module _ (s : Sheet) (samples : List Float) (centre hop : ℕ) where
   -- the sums of position j after k rows
   abbrev sumsAt : ℕ → ℕ → List Float
-  sumsAt k j = turns (powerTurn s samples (centreAt centre hop j)) k 0 noSums
+  sumsAt k j = turns (powerTurn s samples (laterCentre centre hop j)) k 0 noSums
 
   -- of all eight
   abbrev pub blockAfter : ℕ → List (List Float)
@@ -104,15 +104,15 @@ module _ (s : Sheet) (samples : List Float) (centre hop : ℕ) where
       abbrev later : ℕ → Float
       later j = lanePower samples (s .constantQWindows) (laterBy (j * hop) (lane k))
 
-      power-is : (j : ℕ) → j < 8 → later j ≡ rowPower s samples (centreAt centre hop j) k
+      power-is : (j : ℕ) → j < 8 → later j ≡ rowPower s samples (laterCentre centre hop j) k
       power-is j l =
           let by : j * hop ≤ 7 * hop = mul-le-mul-right hop (le-of-suc-le-suc l) in
-          ap (lanePower samples (s .constantQWindows)) (lane-moved (whole-row k h) (j * hop) by _ _) ∙ power-of-row s samples (centreAt centre hop j) k
+          ap (lanePower samples (s .constantQWindows)) (lane-moved (whole-row k h) (j * hop) by _ _) ∙ power-of-row s samples (laterCentre centre hop j) k
 
       sums-more : (j : ℕ) → j < 8 → classAdded (s .head .«minimum_midi_note») k (later j) (sumsAt k j) ≡ sumsAt (k + 1) j
       sums-more j l =
           let by : j * hop ≤ 7 * hop = mul-le-mul-right hop (le-of-suc-le-suc l) in
-          rw (power-is j l, turns-last (powerTurn s samples (centreAt centre hop j)) k noSums, half-left (whole-row k h) (j * hop) by) refl
+          rw (power-is j l, turns-last (powerTurn s samples (laterCentre centre hop j)) k noSums, half-left (whole-row k h) (j * hop) by) refl
 
       pub block-more : {row : Lane} {powers : List Float} {block after : List (List Float)} → row ≡ lane k → powers ≡ eightPowers samples (s .constantQWindows) hop row → block ≡ blockAfter k → after ≡ rowAdded (s .head .«minimum_midi_note») k powers block → after ≡ blockAfter (k + 1)
       unfolding rowAdded eightPowers

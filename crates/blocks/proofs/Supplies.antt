@@ -11,8 +11,8 @@ use Rattle.laws.specs.Front.{list}
 use Rattle.laws.proofs.Front.{length-list, getD-list, getD-front, filled-start, filled-more}
 use Rattle.calls.specs.Call.{Sheet}
 use Rattle.constant_q.specs.ConstantQ.{constantQOf}
-use Rattle.blocks.specs.Block.{centreAt, allWhole, Inside, chromasOf}
-use Rattle.blocks.specs.Stock.{middleAt, constantAt, Centred, Tuned, Stock, FilledFrom, Supplied}
+use Rattle.blocks.specs.Block.{laterCentre, allWhole, Inside, chromasOf}
+use Rattle.blocks.specs.Stock.{middleAt, constantAt, Centred, Tuned, Stock, FilledFrom, HandedOut}
 use Rattle.blocks.specs.declared.stock.Held.{Held}
 
 module _ (chroma : ℕ → List Float) (k : ℕ) where
@@ -47,16 +47,16 @@ module _ (chroma : ℕ → List Float) (k : ℕ) where
         some = omega arith;
       }
 
-  pub from-held : {held : Held} {block : List (List Float)} → Stock chroma held block → held .first ≤ k → k - held .first < held .count → Supplied chroma k (record { held = held; chroma = getD block (k - held .first) [] }) block
+  pub from-held : {held : Held} {block : List (List Float)} → Stock chroma held block → held .first ≤ k → k - held .first < held .count → HandedOut chroma k (record { held = held; chroma = getD block (k - held .first) [] }) block
   from-held {held} a begun within =
       let back : held .first + (k - held .first) ≡ k = omega arith in
       record { told = a .entries (k - held .first) within ∙ ap chroma back; stock = a; begun = begun }
 
-  pub from-filled : {held : Held} {block : List (List Float)} → FilledFrom chroma k held block → Supplied chroma k (record { held = held; chroma = getD block 0 [] }) block
+  pub from-filled : {held : Held} {block : List (List Float)} → FilledFrom chroma k held block → HandedOut chroma k (record { held = held; chroma = getD block 0 [] }) block
   from-filled {held} f = let e : held .first + 0 ≡ k = omega (arith, f .first) in record { told = f .stock .entries 0 (f .some) ∙ ap chroma e; stock = f .stock; begun = omega (arith, f .first) }
 
 module _ (samples : List Float) (half hop k : ℕ) where
-  same-centre : (j : ℕ) → centreAt (middleAt half hop k) hop j ≡ middleAt half hop (k + j)
+  same-centre : (j : ℕ) → laterCentre (middleAt half hop k) hop j ≡ middleAt half hop (k + j)
   same-centre j = let spread = add-mul k j hop in omega arith
 
   pub block-held : (s : Sheet) {block : List (List Float)} → block ≡ chromasOf s samples (middleAt half hop k) hop → FilledFrom (constantAt s samples half hop) k (record { first = k; count = 8 }) block

@@ -14,8 +14,8 @@ use Rattle.filters.specs.Classes.{noSums, classAdded}
 use Rattle.constant_q.specs.ConstantQ.{constantQOf}
 
 -- the centre of position j, counted from the one with this centre
-abbrev pub centreAt : ℕ → ℕ → ℕ → ℕ
-centreAt centre hop j = centre + j * hop
+abbrev pub laterCentre : ℕ → ℕ → ℕ → ℕ
+laterCentre centre hop j = centre + j * hop
 
 -- a window of this size lies whole on the track at eight positions: at the first it begins there, and at the last there is room for it
 unfoldable pub wholeAt : ℕ → ℕ → ℕ → ℕ → Bool
@@ -43,4 +43,4 @@ rowAdded lowest k powers block = list (λ (j : ℕ). classAdded lowest k (getD p
 
 -- the chromas of eight positions
 unfoldable pub chromasOf : Sheet → List Float → ℕ → ℕ → List (List Float)
-chromasOf s samples centre hop = list (λ (j : ℕ). constantQOf s samples (centreAt centre hop j)) 8
+chromasOf s samples centre hop = list (λ (j : ℕ). constantQOf s samples (laterCentre centre hop j)) 8

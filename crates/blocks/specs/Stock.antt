@@ -41,7 +41,7 @@ pub record FilledFrom (chroma : ℕ → List Float) (k : ℕ) (held : Held) (blo
   pub some : 0 < held .count
 
 -- the chroma of position k was handed out of the block, which still holds what it says
-pub record Supplied (chroma : ℕ → List Float) (k : ℕ) (h : Handed) (block : List (List Float)) : Type 0 where
+pub record HandedOut (chroma : ℕ → List Float) (k : ℕ) (h : Handed) (block : List (List Float)) : Type 0 where
   pub told : h .chroma ≡ chroma k
   pub stock : Stock chroma (h .held) block
   pub begun : h .held .first ≤ k

@@ -26,21 +26,19 @@ coveredCount size centre samples = min (coveredFrom size centre + size) samples 
 unfoldable pub halfLeft : ℕ → ℕ → ℕ → Bool
 halfLeft size centre samples = not (ltb (coveredCount size centre samples) (size / 2))
 
--- value i of row k: a sample times its window value, whatever the sample is; the row's window begins where those of the rows before it end
-abbrev pub coveredValue : Sheet → List Float → ℕ → ℕ → ℕ → Float
-coveredValue s samples centre k i =
-    mul binary32 (getD samples (coveredFrom (getD (s .constantQLengths) k 0) centre + i) nan) (getD (s .constantQWindows) (joinedLength (s .constantQLengths) k + i) nan)
-
 -- a power over the square of the count; what is below 0 and a NaN count as 0
 unfoldable pub perCount : ℕ → Float → Float
 perCount count power = maximumNumber (div binary32 power (mul binary32 (ofInt binary32 (pos count)) (ofInt binary32 (pos count)))) plusZero
 
--- the power that row k's resonator ends with
+-- the power of row k: its resonator takes each covered sample times its window value, whatever the sample is; the joined windows have the row's where
+-- those of the rows before it end
 unfoldable pub rowPower : Sheet → List Float → ℕ → ℕ → Float
 rowPower s samples centre k =
+    let size = getD (s .constantQLengths) k 0 in
     let coefficient = getD (s .constantQCoefficients) k nan in
-    let count = coveredCount (getD (s .constantQLengths) k 0) centre (length samples) in
-    perCount count (powerOf coefficient (resonated coefficient (coveredValue s samples centre k) count))
+    let value : ℕ → Float = λ (i : ℕ). mul binary32 (getD samples (coveredFrom size centre + i) nan) (getD (s .constantQWindows) (joinedLength (s .constantQLengths) k + i) nan) in
+    let count = coveredCount size centre (length samples) in
+    perCount count (powerOf coefficient (resonated coefficient value count))
 
 -- it is added to the row's class; a row with under half of its window left is passed over
 abbrev pub powerTurn : Sheet → List Float → ℕ → ℕ → List Float → List Float

@@ -21,7 +21,7 @@ use Rattle.goertzel.proofs.Alone.{goertzel-by-rows}
 use Rattle.constant_q.specs.ConstantQ.{constantQOf}
 use Rattle.constant_q.specs.inside.Powers.{constantQRows}
 use Rattle.constant_q.proofs.Rows.{constant-q-by-rows}
-use Rattle.blocks.specs.Stock.{Centred, Tuned, Stock, Supplied}
+use Rattle.blocks.specs.Stock.{Centred, Tuned, Stock, HandedOut}
 use Rattle.blocks.specs.declared.stock.Held.{Held}
 use Rattle.blocks.specs.declared.stock.Handed.{Handed}
 use Rattle.one_frame.specs.Frame.{loud, middleOf, rowFrom, rowOf, whole}
@@ -160,7 +160,7 @@ stocked-start c long = record { stock = record { long = long; few = omega arith;
 pub stocked-quiet : {c : Call} {held : Held} {block : List (List Float)} {k : ℕ} → Stocked c held block k → Stocked c held block (k + 1)
 stocked-quiet {k = k} s = let b = s .begun in record { stock = s .stock; begun = omega arith }
 
-pub stocked-loud : {c : Call} {h : Handed} {block : List (List Float)} {k : ℕ} → Supplied (constantOf c) k h block → Stocked c (h .held) block (k + 1)
+pub stocked-loud : {c : Call} {h : Handed} {block : List (List Float)} {k : ℕ} → HandedOut (constantOf c) k h block → Stocked c (h .held) block (k + 1)
 stocked-loud s = let b = s .begun in record { stock = s .stock; begun = omega arith }
 
 -- every position's centre lies on the track, and the rows are as the supply takes them

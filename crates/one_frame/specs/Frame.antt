@@ -17,14 +17,14 @@ use Rattle.one_frame.specs.Blend.{blendOf}
 use Rattle.one_frame.specs.declared.frame.Row.{Row}
 
 -- a sample's square is added, unless the sample is not finite
-unfoldable pub energyTurn : List Float → ℕ → ℕ → Float → Float
-energyTurn samples start i e =
+unfoldable pub squareAdded : List Float → ℕ → ℕ → Float → Float
+squareAdded samples start i e =
     let x = getD samples (start + i) nan in
     cond (finite x) (add binary32 e (mul binary32 x x)) e
 
 -- the squares of a frame's finite samples, summed from -0, over the frame size
-unfoldable pub energyOf : List Float → ℕ → ℕ → Float
-energyOf samples start size = div binary32 (turns (energyTurn samples start) size 0 minusZero) (ofInt binary32 (pos size))
+unfoldable pub frameEnergy : List Float → ℕ → ℕ → Float
+frameEnergy samples start size = div binary32 (turns (squareAdded samples start) size 0 minusZero) (ofInt binary32 (pos size))
 
 -- above 1e-8
 unfoldable pub loud : Float → Bool

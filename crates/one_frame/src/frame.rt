@@ -5,7 +5,7 @@ ghost use lib.ListN.{length};
 ghost use Rattle.goertzel.specs.Goertzel.{goertzelOf};
 ghost use Rattle.goertzel.specs.inside.Rows.{goertzelRows};
 ghost use Rattle.one_frame.specs.Blend.{blendOf};
-ghost use Rattle.one_frame.specs.Frame.{energyOf, loud, middleOf, secondsAt, rowFrom, whole};
+ghost use Rattle.one_frame.specs.Frame.{frameEnergy, loud, middleOf, secondsAt, rowFrom, whole};
 use crate::blend::blend;
 use calls::Settings;
 use goertzel::goertzel_chroma;
@@ -21,7 +21,7 @@ pub struct Row {
 // The mean of the squares of a frame's finite samples.
 pub fn frame_energy(samples: &[f32], start: usize, size: usize) -> f32
     requires { ⌜ (start + size ≤ length (now samples)) × (size ≤ 65536) ⌝ }
-    ensures { λ r. ⌜ r ≡ energyOf (now (samples .entry)) start size ⌝ }
+    ensures { λ r. ⌜ r ≡ frameEnergy (now (samples .entry)) start size ⌝ }
 {
     let mut sum: f32 = -0.0;
     let mut i = 0;
