@@ -1,11 +1,10 @@
 -- The chroma from listed powers is the one of the definition, which reads the constant-Q rows of a sheet and nothing else.
-use mathlib.Core.Path.{_≡_, refl, ap, _∙_}
+use mathlib.Core.Path.{_≡_, refl}
 use mathlib.Core.List.{List}
-use Prim.Native.Nat.{ℕ, _+_, _<_}
+use Prim.Native.Nat.{ℕ, _<_}
 use native.Mathlib.Omega.{arith}
 use lib.ListN.{length}
 use lib.Ieee.{Float, nan}
-use Rattle.laws.specs.Turns.{turns}
 use Rattle.laws.proofs.Turns.{turns-part}
 use Rattle.laws.proofs.Front.{length-list, getD-list}
 use Rattle.calls.specs.Call.{Sheet}

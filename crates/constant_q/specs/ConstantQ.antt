@@ -30,8 +30,7 @@ halfLeft size centre samples = not (ltb (coveredCount size centre samples) (size
 unfoldable pub perCount : ℕ → Float → Float
 perCount count power = maximumNumber (div binary32 power (mul binary32 (ofInt binary32 (pos count)) (ofInt binary32 (pos count)))) plusZero
 
--- the power of row k: its resonator takes each covered sample times its window value, whatever the sample is; the joined windows have the row's where
--- those of the rows before it end
+-- the power of row k: covered samples times window values, whatever the samples are; its window stands behind those of the rows before it
 unfoldable pub rowPower : Sheet → List Float → ℕ → ℕ → Float
 rowPower s samples centre k =
     let size = getD (s .constantQLengths) k 0 in
