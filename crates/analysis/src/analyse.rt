@@ -2,7 +2,7 @@
 ghost use mathlib.Core.Path.{_≡_};
 ghost use Rattle.calls.specs.Call.{given};
 ghost use Rattle.rooms.specs.Lent.{lentAll};
-ghost use Rattle.loud_frames.specs.Loud.{outcome};
+ghost use Rattle.loud_frames.specs.Loud.{analyseOutcome};
 ghost use Rattle.analysis.specs.Analyse.{analysed};
 use answers::answer::AnalyseResult;
 use answers::answer::keyless;
@@ -12,8 +12,9 @@ use checks::Checked;
 use checks::check;
 use checks::fewest;
 use positions::run::analyse_positions;
+use rooms::frame_room;
 use rooms::is_hasty;
-use rooms::room_for;
+use rooms::rows_lack;
 use timeline::estimate::estimate_room;
 use timeline::segment::segment_room;
 
@@ -40,19 +41,13 @@ pub fn analyse(
     keys: &mut [u8],
     confidences: &mut [f32],
 ) -> AnalyseResult
-    ensures { λ r. ⌜ outcome r (lentAll (centres .exit) (values .exit) (energies .exit) (work .exit) (middles .exit) (numbers .exit) (certainties .exit) (starts .exit) (ends .exit) (keys .exit) (confidences .exit)) ≡ analysed (given settings head (samples .entry) (window .entry) (coefficients .entry) (weights .entry) (lengths .entry) (qcoefficients .entry) (qwindows .entry)) (lentAll (centres .entry) (values .entry) (energies .entry) (work .entry) (middles .entry) (numbers .entry) (certainties .entry) (starts .entry) (ends .entry) (keys .entry) (confidences .entry)) ⌝ }
+    ensures { λ r. ⌜ analyseOutcome r (lentAll (centres .exit) (values .exit) (energies .exit) (work .exit) (middles .exit) (numbers .exit) (certainties .exit) (starts .exit) (ends .exit) (keys .exit) (confidences .exit)) ≡ analysed (given settings head (samples .entry) (window .entry) (coefficients .entry) (weights .entry) (lengths .entry) (qcoefficients .entry) (qwindows .entry)) (lentAll (centres .entry) (values .entry) (energies .entry) (work .entry) (middles .entry) (numbers .entry) (certainties .entry) (starts .entry) (ends .entry) (keys .entry) (confidences .entry)) ⌝ }
 {
     let rows = fewest(centres.len(), values.len(), energies.len());
     let estimates = estimate_room(middles, numbers, certainties);
     let segments = segment_room(starts, ends, keys, confidences);
-    let room = room_for(
-        settings,
-        samples.len(),
-        rows,
-        work.len(),
-        estimates,
-        segments,
-    );
+    let few = rows_lack(settings, samples.len(), estimates, segments);
+    let room = frame_room(rows, work.len());
     match check(
         settings,
         head,
@@ -64,6 +59,7 @@ pub fn analyse(
         qcoefficients,
         qwindows,
         is_hasty(settings),
+        few,
         room,
     ) {
         Checked::Refused(number) => keyless(number, 0, 0, 0),

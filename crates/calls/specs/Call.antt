@@ -2,7 +2,8 @@
 use Prim.Native.Nat.{ℕ, _+_, _-_, _/_}
 use mathlib.Core.List.{List}
 use denote.Ref.{RefT, now}
-use lib.Ieee.{Float}
+use lib.Dec.{T}
+use lib.Ieee.{Float, binary32, fits}
 use Rattle.calls.specs.declared.Settings.{Settings}
 use Rattle.calls.specs.declared.SheetHead.{SheetHead}
 
@@ -49,6 +50,14 @@ abbrev pub given : Settings → SheetHead → RefT (List Float) → RefT (List F
 given settings head samples window coefficients weights lengths qCoefficients qWindows =
     callOf settings head (now samples) (now window) (now coefficients) (now weights) (now lengths) (now qCoefficients) (now qWindows)
 
+-- the longest track in seconds
+abbrev pub longestTrack : ℕ
+longestTrack = 14_400
+
 -- how many frames a track of so many samples has: the last one starts at or before count - frame size
 abbrev pub positionsOf : Settings → ℕ → ℕ
 positionsOf s count = (count - s .«frame_size») / s .«hop_size» + 1
+
+-- what the type of every caller's settings says and theorems ask for: the window's length is an f32
+pub record Typed (s : Settings) : Type 0 where
+  pub window : T (fits binary32 (s .«local_window_seconds»))

@@ -1,5 +1,8 @@
 // What a call is asked, and what the sheet that it lends was made for.
 
+// The longest track in seconds.
+pub const LONGEST_TRACK: usize = 14_400;
+
 // The track's rate, then the Rust's `KeyConfig`.
 #[repr(C)]
 pub struct Settings {

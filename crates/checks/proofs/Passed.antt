@@ -11,7 +11,7 @@ use lib.Ieee.{lt}
 use lib.Ieee.Scale.{finite}
 use Rattle.laws.specs.Values.{plusZero}
 use Rattle.laws.proofs.Table.{none-of, each-of, fell-through}
-use Rattle.calls.specs.Call.{Call, positionsOf}
+use Rattle.calls.specs.Call.{Call, longestTrack, positionsOf}
 use Rattle.calls.specs.declared.Settings.{Settings}
 use Rattle.sheets.specs.Sheet.{matchesCall, wellFormed}
 use Rattle.checks.specs.Checks.{allFinite, reasons, nothingToDo, tooLarge, table, checked}
@@ -61,17 +61,17 @@ each-finite {s} e =
     }
 
 -- every row's test failed
-pub record Passed (c : Call) (hasty : Bool) (room positions : ℕ) : Type 0 where
+pub record Passed (c : Call) (hasty crowded : Bool) (positions : ℕ) : Type 0 where
   pub many : positions ≡ positionsOf (c .settings) (length (c .samples))
   pub worthwhile : Worth (c .settings) (length (c .samples))
   pub slow : c .settings .rate ≤ 192_000
   pub small : c .settings .«frame_size» ≤ 65536
   pub numbers : Finite (c .settings)
-  pub short : length (c .samples) ≤ 14_400 * c .settings .rate
+  pub short : length (c .samples) ≤ longestTrack * c .settings .rate
   pub unhurried : hasty ≡ false
   pub made : matchesCall (c .settings) (c .sheet .head) ≡ true
   pub formed : wellFormed (c .sheet) ≡ true
-  pub places : positions ≤ room
+  pub roomy : crowded ≡ false
 
 abbrev goes : Checked → Bool
 goes (Refused n) = false
@@ -81,22 +81,21 @@ goes (Go p) = true
 go-is : {m p : ℕ} → Go m ≡ Go p → p ≡ m
 go-is e = cc
 
-pub passed : (c : Call) (hasty : Bool) (room positions : ℕ) → checked c hasty room ≡ Go positions → Passed c hasty room positions
+pub passed : (c : Call) (hasty crowded : Bool) (positions : ℕ) → checked c hasty crowded ≡ Go positions → Passed c hasty crowded positions
 unfolding checked
-passed c hasty room positions e =
+passed c hasty crowded positions e =
     let all = positionsOf (c .settings) (length (c .samples)) in
-    let f = fell-through goes (table c hasty room) (Go all) refl refl e in
+    let f = fell-through goes (table c hasty crowded) (Go all) refl refl e in
     let many : positions ≡ all = go-is (f .below) in
-    let fits = ltb-false room all (f .failed 8) in
     record {
       many = many;
       worthwhile = worth (f .failed 3);
       slow = ltb-false 192_000 (c .settings .rate) (f .failed 0);
       small = ltb-false 65536 (c .settings .«frame_size») (none-of (tooLarge (c .settings)) (f .failed 1) 0);
       numbers = each-finite (not-false _ (f .failed 2));
-      short = ltb-false (14_400 * c .settings .rate) (length (c .samples)) (f .failed 4);
+      short = ltb-false (longestTrack * c .settings .rate) (length (c .samples)) (f .failed 4);
       unhurried = f .failed 5;
       made = not-false _ (f .failed 6);
       formed = not-false _ (f .failed 7);
-      places = omega arith;
+      roomy = f .failed 8;
     }

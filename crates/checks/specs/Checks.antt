@@ -8,7 +8,7 @@ use lib.Ieee.{lt}
 use lib.Ieee.Scale.{finite}
 use Rattle.laws.specs.Table.{Check, _gives_, firstOf, anyOf, allOf}
 use Rattle.laws.specs.Values.{plusZero}
-use Rattle.calls.specs.Call.{Call, positionsOf}
+use Rattle.calls.specs.Call.{Call, longestTrack, positionsOf}
 use Rattle.calls.specs.declared.Settings.{Settings}
 use Rattle.sheets.specs.Sheet.{matchesCall, wellFormed}
 use Rattle.checks.specs.declared.Checked.{Checked}
@@ -45,22 +45,22 @@ nothingToDo s count = anyOf (reasons s count)
 abbrev pub tooLarge : Settings → List Bool
 tooLarge s = ltb 65_536 (s .«frame_size») ∷ ltb 1_048_576 (s .«hop_size») ∷ []
 
--- the table from the top; whether row 5 applies, and the room for rows that row 8 asks about, are the call's own
-abbrev pub table : Call → Bool → ℕ → List (Check Checked)
-table c hasty room =
+-- the table from the top; whether rows 5 and 8 apply is the call's own to say
+abbrev pub table : Call → Bool → Bool → List (Check Checked)
+table c hasty crowded =
     let s = c .settings in
     let count = length (c .samples) in
     (ltb 192_000 (s .rate) gives Refused 1)
     ∷ (anyOf (tooLarge s) gives Refused 2)
     ∷ (not (allFinite s) gives Refused 3)
     ∷ (nothingToDo s count gives Empty)
-    ∷ (ltb (14_400 * s .rate) count gives Refused 4)
+    ∷ (ltb (longestTrack * s .rate) count gives Refused 4)
     ∷ (hasty gives Refused 5)
     ∷ (not (matchesCall s (c .sheet .head)) gives Refused 6)
     ∷ (not (wellFormed (c .sheet)) gives Refused 7)
-    ∷ (ltb room (positionsOf s count) gives Refused 8)
+    ∷ (crowded gives Refused 8)
     ∷ []
 
 -- the first row that applies decides; a call that none applies to goes through its frame positions
-unfoldable pub checked : Call → Bool → ℕ → Checked
-checked c hasty room = firstOf (table c hasty room) (Go (positionsOf (c .settings) (length (c .samples))))
+unfoldable pub checked : Call → Bool → Bool → Checked
+checked c hasty crowded = firstOf (table c hasty crowded) (Go (positionsOf (c .settings) (length (c .samples))))

@@ -1,8 +1,12 @@
 // The checks of a call, in the table's order.
 ghost use mathlib.Core.Path.{_≡_};
 ghost use Prim.Native.Nat.{_<_, _≤_, min};
+ghost use mathlib.Core.Bool.{_||_};
+ghost use lib.Dec.{ltb};
+ghost use lib.ListN.{length};
 ghost use Rattle.calls.specs.Call.{given, positionsOf};
 ghost use Rattle.checks.specs.Checks.{allFinite, nothingToDo, checked};
+use calls::LONGEST_TRACK;
 use calls::Settings;
 use calls::SheetHead;
 use numbers::counts::fewer;
@@ -58,7 +62,8 @@ fn frame_positions(s: Settings, count: usize) -> usize
     (count - s.frame_size) / hop + 1
 }
 
-// What the table says of a call that has room for so many rows. It is hasty where row 5 applies.
+// What the table says of a call with room for so many frames. It is hasty where row 5 applies; few says that other rows
+// are too few.
 pub fn check(
     settings: Settings,
     head: SheetHead,
@@ -70,9 +75,10 @@ pub fn check(
     qcoefficients: &[f32],
     qwindows: &[f32],
     hasty: bool,
+    few: bool,
     room: usize,
 ) -> Checked
-    ensures { λ r. ⌜ r ≡ checked (given settings head (samples .entry) (window .entry) (coefficients .entry) (weights .entry) (lengths .entry) (qcoefficients .entry) (qwindows .entry)) hasty room ⌝ }
+    ensures { λ r. ⌜ r ≡ checked (given settings head (samples .entry) (window .entry) (coefficients .entry) (weights .entry) (lengths .entry) (qcoefficients .entry) (qwindows .entry)) hasty (few || ltb room (positionsOf settings (length (now (samples .entry))))) ⌝ }
 {
     if settings.rate > 192_000 {
         return Checked::Refused(1);
@@ -86,7 +92,7 @@ pub fn check(
     if nothing_to_do(settings, samples.len()) {
         return Checked::Empty;
     }
-    if samples.len() > 14_400 * (settings.rate as usize) {
+    if samples.len() > LONGEST_TRACK * (settings.rate as usize) {
         return Checked::Refused(4);
     }
     if hasty {
@@ -107,7 +113,7 @@ pub fn check(
         return Checked::Refused(7);
     }
     let positions = frame_positions(settings, samples.len());
-    if room < positions {
+    if few | (room < positions) {
         return Checked::Refused(8);
     }
     Checked::Go(positions)

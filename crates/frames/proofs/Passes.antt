@@ -16,7 +16,7 @@ use Rattle.sheets.proofs.Formed.{well-formed-suffices}
 use Rattle.checks.specs.Checks.{checked}
 use Rattle.checks.specs.declared.Checked.the-variants.{Go}
 use Rattle.checks.proofs.Passed.{passed}
-use Rattle.frames.specs.Run.{Ready}
+use Rattle.frames.specs.inside.Rows.{Ready}
 
 -- a sheet that was made for the call is for its frame size
 same-size : (s : Settings) (h : SheetHead) → matchesCall s h ≡ true → h .«frame_size» ≡ s .«frame_size»
@@ -31,10 +31,10 @@ same-size s h m =
     ∷ [])
     m 3)
 
--- whatever room the call told, where the lent rows have that much
-pub ready : (c : Call) (hasty : Bool) (room : ℕ) (before : Rows) (positions : ℕ) → c .sheet .head .«maximum_midi_note» < 256 → room ≤ roomIn before → checked c hasty room ≡ Go positions → Ready c before positions
-ready c hasty room before positions note there e =
-    let p = passed c hasty room positions e in
+-- where the lent rows have the room
+pub ready : (c : Call) (hasty crowded : Bool) (before : Rows) (positions : ℕ) → c .sheet .head .«maximum_midi_note» < 256 → positions ≤ roomIn before → checked c hasty crowded ≡ Go positions → Ready c before positions
+ready c hasty crowded before positions note there e =
+    let p = passed c hasty crowded positions e in
     record {
       many = p .many;
       hops = p .worthwhile .hops;
@@ -43,7 +43,7 @@ ready c hasty room before positions note there e =
       enough = p .worthwhile .enough;
       sized = same-size (c .settings) (c .sheet .head) (p .made);
       formed = well-formed-suffices (c .sheet) note (p .formed);
-      centres = omega (arith, p .places, there);
-      values = omega (arith, p .places, there);
-      energies = omega (arith, p .places, there);
+      centres = omega (arith, there);
+      values = omega (arith, there);
+      energies = omega (arith, there);
     }

@@ -1,20 +1,18 @@
 -- A frame further on has a later middle; neither a whole number's float falls as the number grows, nor its quotient by the rate.
 use Prim.Native.Nat.{ℕ, zero, suc, _+_, _*_, _<_, _≤_}
 use mathlib.Core.Path.{_≡_, sym, ap, ap₂, subst₂, _∙_}
-use mathlib.Core.Bool.{Bool, true, false, cond}
+use mathlib.Core.Bool.{false}
 use mathlib.Core.List.{List, [], _∷_, _++_, map}
 use native.Mathlib.Nat.{not-suc-le-zero, mul-le-mul-right}
 use native.Mathlib.Omega.{arith}
-use lib.Dec.{T, ltb}
-use lib.ListN.{length, getD}
+use lib.Dec.{T}
+use lib.ListN.{length, getD, length-map, List·getD-map}
 use lib.Ieee.{Float, nan, binary64, div, le}
 use lib.Ieee.Back.{round-whole}
 use lib.Ieee.Positive.{positive, positive-of-value}
-use Rattle.laws.specs.First.{first}
-use Rattle.laws.specs.Front.{front}
 use Rattle.laws.specs.Convert.{parts}
 use Rattle.laws.proofs.Cases.{by-test}
-use Rattle.laws.proofs.Column.{column-at}
+use Rattle.laws.proofs.Column.{entry-there}
 use Rattle.laws.proofs.Every.{every-pair-of, each-more, each-pair-more}
 use Rattle.laws.proofs.Order.{le-refl, le-trans}
 use Rattle.laws.proofs.Nonneg.{positive→nonneg, nonneg→ordered, div-mono}
@@ -22,10 +20,9 @@ use Rattle.laws.proofs.Parts.{whole-is, parts-clear, parts-mono}
 use Rattle.calls.specs.Call.{Call}
 use Rattle.checks.proofs.Passed.{passed}
 use Rattle.one_frame.specs.Frame.{loud, middleOf, secondsAt, rowOf}
-use Rattle.frames.specs.Run.{energyAt, frameRow, notFiniteAt, loudBefore, Run, runOf}
+use Rattle.frames.specs.Run.{energyAt, frameRow, loudBefore}
 use Rattle.frames.specs.Rising.{LoudCentresRise}
 use Rattle.one_frame.specs.declared.frame.Row.{Row}
-use Rattle.frames.specs.declared.run.Filled.the-variants.{All, NotFinite}
 
 module _ (c : Call) (rated : 0 < c .settings .rate) (slow : c .settings .rate ≤ 192_000) where
   -- the middle of the frame at position k, as a sample and in seconds
@@ -69,19 +66,12 @@ module _ (c : Call) (rated : 0 < c .settings .rate) (slow : c .settings .rate �
   before-each zero = record { upward = λ i d l. absurd (not-suc-le-zero l); under = λ i d l. absurd (not-suc-le-zero l) }
   before-each (suc k) = let b = before-each k in by-test (Before (suc k)) (loud (energyAt c k)) (λ _. later k (one-more k b)) (λ _. later k b)
 
--- how many an answer says that is not of a broken position
-all-count : (broken : Bool) (n k m : ℕ) → All n ≡ cond broken (NotFinite k m) (All m) → n ≡ m
-all-count true n k m e = cc
-all-count false n k m e = cc
-
 pub loud-centres-rise : LoudCentresRise
-unfolding runOf
-loud-centres-rise c hasty room positions n before now go e =
-    let p = passed c hasty room positions go in
-    let k = first (notFiniteAt c) positions 0 in
+loud-centres-rise c hasty crowded positions k go =
+    let p = passed c hasty crowded positions go in
     let found = loudBefore c k in
-    let count : n ≡ length found = all-count (ltb k positions) n k (length found) (ap (λ (r : Run). r .answer) e) in
-    let left : now .centres ≡ front (map (λ (r : Row). r .centre) found) (before .centres) = ap (λ (r : Run). r .rows .centres) e in
-    let at : (i : ℕ) (d : Row) → i < length found → getD found i d .centre ≡ getD (now .centres) i nan = λ i d l. sym (ap (λ (m : List Float). getD m i nan) left ∙ column-at (λ (r : Row). r .centre) found (before .centres) i nan d l) in
-    every-pair-of le nan (now .centres) n
-    (λ i l. subst₂ (λ (x y : Float). T (le x y)) (at i (frameRow c 0) (omega (arith, l, count))) (at (i + 1) (frameRow c 0) (omega (arith, l, count))) (before-each c (p .worthwhile .rated) (p .slow) k .upward i (frameRow c 0) (omega (arith, l, count))))
+    let centres = map (λ (r : Row). r .centre) found in
+    let d = frameRow c 0 in
+    let at : (i : ℕ) → i < length found → getD found i d .centre ≡ getD centres i nan = λ i l. sym (entry-there centres i nan (d .centre) (rw (length-map found (λ (r : Row). r .centre)) l) ∙ List·getD-map (λ (r : Row). r .centre) found i d) in
+    every-pair-of le nan centres (length found)
+    (λ i l. subst₂ (λ (x y : Float). T (le x y)) (at i (omega (arith, l))) (at (i + 1) (omega (arith, l))) (before-each c (p .worthwhile .rated) (p .slow) k .upward i d (omega (arith, l))))

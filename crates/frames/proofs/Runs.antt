@@ -25,7 +25,8 @@ use Rattle.blocks.specs.Stock.{Centred, Tuned, Stock, HandedOut}
 use Rattle.blocks.specs.declared.stock.Held.{Held}
 use Rattle.blocks.specs.declared.stock.Handed.{Handed}
 use Rattle.one_frame.specs.Frame.{loud, middleOf, rowFrom, rowOf, whole}
-use Rattle.frames.specs.Run.{energyAt, frameRow, notFiniteAt, loudBefore, put, holding, ran, runTo, runOf, Ready}
+use Rattle.frames.specs.Run.{energyAt, frameRow, notFiniteAt, loudBefore, stopOf, holdingFrames}
+use Rattle.frames.specs.inside.Rows.{put, ran, runTo, runOf, Ready}
 use Rattle.one_frame.specs.declared.frame.Row.{Row}
 use Rattle.frames.specs.declared.run.Filled.{Filled}
 use Rattle.frames.specs.declared.run.Filled.the-variants.{All, NotFinite}
@@ -133,11 +134,11 @@ module _ {c : Call} {positions : ℕ} {before now : Rows} {k n : ℕ} (reached :
 
   -- what is left where the run ends at k
   left-at : (passed : Bool) → ltb k positions ≡ passed → k ≡ first (notFiniteAt c) positions 0 → ran (cond passed (NotFinite k n) (All n)) now ≡ runOf c positions before
-  unfolding runOf
+  unfolding runOf stopOf
   left-at passed t e =
       let found = loudBefore c k in
       let answer : cond passed (NotFinite k n) (All n) ≡ cond (ltb k positions) (NotFinite k (length found)) (All (length found)) = cc in
-      let left : now ≡ holding found before = same-rows (reached .centres .here) (reached .values .here) (reached .energies .here) in
+      let left : now ≡ holdingFrames found before = same-rows (reached .centres .here) (reached .values .here) (reached .energies .here) in
       ap (λ (a : Filled). ran a now) answer ∙ ap (ran _) left ∙ ap (λ (j : ℕ). runTo c positions j before) e
 
   pub reached-broken : k < positions → loud (energyAt c k) ≡ true → whole (frameRow c k) ≡ false → ran (NotFinite k n) now ≡ runOf c positions before

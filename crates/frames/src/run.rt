@@ -4,7 +4,7 @@ ghost use Prim.Native.Nat.{_+_, _*_, _<_};
 ghost use lib.ListN.{length};
 ghost use Rattle.calls.specs.Call.{given};
 ghost use Rattle.calls.specs.Rows.{lentRows};
-ghost use Rattle.frames.specs.Run.{put, ran, runOf, Ready};
+ghost use Rattle.frames.specs.inside.Rows.{put, ran, runOf, Ready};
 use blocks::stock::Held;
 use blocks::stock::supply;
 use calls::Settings;

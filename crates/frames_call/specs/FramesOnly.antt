@@ -1,24 +1,19 @@
 -- What `ulyptesh_frames` promises, as one definition of what it is given. Definitions only.
-use mathlib.Core.Bool.{false}
+use mathlib.Core.Bool.{false, cond}
 use Prim.Native.Nat.{ℕ}
-use Rattle.calls.specs.Call.{Call}
+use lib.Dec.{ltb}
+use lib.ListN.{length}
+use Rattle.calls.specs.Call.{Call, positionsOf}
 use Rattle.calls.specs.Rows.{Rows, roomIn}
 use Rattle.checks.specs.Checks.{checked}
 use Rattle.checks.specs.declared.Checked.{Checked}
 use Rattle.checks.specs.declared.Checked.the-variants.{Refused, Empty, Go}
-use Rattle.frames.specs.Run.{Run, runOf}
-use Rattle.frames.specs.declared.run.Filled.{Filled}
-use Rattle.frames.specs.declared.run.Filled.the-variants.{All, NotFinite}
+use Rattle.frames.specs.Run.{loudBefore, stopOf, holdingFrames}
 use Rattle.frames_call.specs.declared.FramesResult.{FramesResult}
 
 -- 01's number, or 0; the position that 9 names; the count of rows
 abbrev pub framesResult : ℕ → ℕ → ℕ → FramesResult
 framesResult refusal position count = record { refusal = refusal; position = position; count = count }
-
--- the numbers of a run's answer
-abbrev pub filledResult : Filled → FramesResult
-filledResult (All n) = framesResult 0 0 n
-filledResult (NotFinite k n) = framesResult 9 k n
 
 -- what the call answers, and what it leaves in the lent rows
 pub record FramesOutcome : Type 0 where
@@ -29,16 +24,23 @@ pub record FramesOutcome : Type 0 where
 abbrev pub framesOutcome : FramesResult → Rows → FramesOutcome
 framesOutcome answer rows = record { answer = answer; rows = rows }
 
--- the outcome of a run
-abbrev pub ranOutcome : Run → FramesOutcome
-ranOutcome r = framesOutcome (filledResult (r .answer)) (r .rows)
+-- the loud frames of so many positions, in front of what stood there: number 9 where a row that is not finite stops the run
+unfoldable pub framesFound : Call → ℕ → Rows → FramesOutcome
+framesFound c positions lent =
+    let k = stopOf c positions in
+    let found = loudBefore c k in
+    framesOutcome (cond (ltb k positions) (framesResult 9 k (length found)) (framesResult 0 0 (length found))) (holdingFrames found lent)
 
--- a call that the table refuses, or finds empty, changes nothing; any other runs over all frame positions
-abbrev pub afterChecks : Call → Rows → Checked → FramesOutcome
-afterChecks c lent (Refused n) = framesOutcome (framesResult n 0 0) lent
-afterChecks c lent Empty = framesOutcome (framesResult 0 0 0) lent
-afterChecks c lent (Go positions) = ranOutcome (runOf c positions lent)
+-- a call that the table refuses, or finds empty, changes nothing; any other goes through its frame positions
+abbrev pub framesAfter : Call → Rows → Checked → FramesOutcome
+framesAfter c lent (Refused n) = framesOutcome (framesResult n 0 0) lent
+framesAfter c lent Empty = framesOutcome (framesResult 0 0 0) lent
+framesAfter c lent (Go positions) = framesFound c positions lent
 
--- the table without row 5, with the room that the frame rows have
+-- what the table says: without row 5, and row 8 asks for a frame row to each position
+abbrev pub framesTable : Call → Rows → Checked
+framesTable c lent = checked c false (ltb (roomIn lent) (positionsOf (c .settings) (length (c .samples))))
+
+-- the whole outcome of a call
 abbrev pub framesOnly : Call → Rows → FramesOutcome
-framesOnly c lent = afterChecks c lent (checked c false (roomIn lent))
+framesOnly c lent = framesAfter c lent (framesTable c lent)

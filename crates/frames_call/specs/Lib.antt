@@ -1,1 +1,2 @@
 pub mod FramesOnly
+pub mod inside

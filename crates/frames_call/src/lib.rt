@@ -2,7 +2,8 @@
 ghost use mathlib.Core.Path.{_≡_};
 ghost use Rattle.calls.specs.Call.{given};
 ghost use Rattle.calls.specs.Rows.{lentRows};
-ghost use Rattle.frames_call.specs.FramesOnly.{framesResult, filledResult, framesOutcome, framesOnly};
+ghost use Rattle.frames_call.specs.FramesOnly.{framesResult, framesOutcome, framesOnly};
+ghost use Rattle.frames_call.specs.inside.Finished.{filledResult};
 use calls::Settings;
 use calls::SheetHead;
 use checks::Checked;
@@ -77,6 +78,7 @@ pub fn frames_only(
         lengths,
         qcoefficients,
         qwindows,
+        false,
         false,
         room,
     ) {

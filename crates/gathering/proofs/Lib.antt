@@ -1,2 +1,3 @@
 -- What is known of the frames ahead of a window.
 pub mod Known
+pub mod Alike

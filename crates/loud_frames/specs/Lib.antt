@@ -1,1 +1,2 @@
 pub mod Loud
+pub mod inside

@@ -1,7 +1,9 @@
 // From the loud frames in their rows to the answer.
 ghost use mathlib.Core.Path.{_≡_};
 ghost use Rattle.rooms.specs.Lent.{lentAll};
-ghost use Rattle.loud_frames.specs.Loud.{outcome, framesAnalysed, Stocked};
+ghost use Rattle.calls.specs.Rows.{lentRows};
+ghost use Rattle.loud_frames.specs.Loud.{analyseOutcome, loudAnalysed};
+ghost use Rattle.loud_frames.specs.inside.Rows.{framesIn, Stocked};
 use answers::answer::AnalyseResult;
 use answers::answer::keyless;
 use calls::Settings;
@@ -28,7 +30,7 @@ pub fn analyse_frames(
     confidences: &mut [f32],
 ) -> AnalyseResult
     requires { ⌜ Stocked settings samples frames (lentAll centres values energies work middles numbers certainties starts ends keys confidences) ⌝ }
-    ensures { λ r. ⌜ outcome r (lentAll (centres .entry) (values .entry) (energies .entry) (work .exit) (middles .exit) (numbers .exit) (certainties .exit) (starts .exit) (ends .exit) (keys .exit) (confidences .exit)) ≡ framesAnalysed settings samples frames (lentAll (centres .entry) (values .entry) (energies .entry) (work .entry) (middles .entry) (numbers .entry) (certainties .entry) (starts .entry) (ends .entry) (keys .entry) (confidences .entry)) ⌝ }
+    ensures { λ r. ⌜ analyseOutcome r (lentAll (centres .entry) (values .entry) (energies .entry) (work .exit) (middles .exit) (numbers .exit) (certainties .exit) (starts .exit) (ends .exit) (keys .exit) (confidences .exit)) ≡ loudAnalysed settings samples (framesIn (lentRows (centres .entry) (values .entry) (energies .entry)) frames) (lentAll (centres .entry) (values .entry) (energies .entry) (work .entry) (middles .entry) (numbers .entry) (certainties .entry) (starts .entry) (ends .entry) (keys .entry) (confidences .entry)) ⌝ }
 {
     if frames == 0 {
         return keyless(0, 0, 0, 0);

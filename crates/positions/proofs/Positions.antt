@@ -1,19 +1,55 @@
--- The run over the frame positions: what it leaves is what the analysis of its frames needs, and a law for each answer.
-use mathlib.Core.Path.{_≡_, sym, ap, _∙_}
-use Prim.Native.Nat.{ℕ}
+-- The run over the frame positions: what it leaves is what the analysis of its frames needs, and reads back as the frames it found; a law for each answer.
+use mathlib.Core.Path.{_≡_, refl, sym, ap, _∙_}
+use mathlib.Core.Bool.{Bool, true, false, cond}
+use mathlib.Core.List.{List, []}
+use Prim.Native.Nat.{ℕ, _<_}
 use native.Mathlib.Omega.{arith}
-use lib.ListN.{length}
+use lib.Dec.{ltb}
+use lib.ListN.{length, getD}
+use lib.Ieee.{nan}
+use Rattle.laws.proofs.Front.{list-same, list-own}
+use Rattle.laws.proofs.Column.{column-at}
 use Rattle.calls.specs.Call.{Call}
 use Rattle.calls.specs.Rows.{Rows}
-use Rattle.frames.specs.Run.{ran, runOf}
+use Rattle.one_frame.specs.declared.frame.Row.{Row}
+use Rattle.frames.specs.Run.{loudBefore, stopOf, holdingFrames}
+use Rattle.frames.specs.inside.Rows.{Run, ran, runOf}
 use Rattle.frames.specs.declared.run.Filled.{Filled}
 use Rattle.frames.specs.declared.run.Filled.the-variants.{All, NotFinite}
 use Rattle.frames.proofs.Left.{run-left}
 use Rattle.rooms.specs.Lent.{Lent, withFrames}
 use Rattle.answers.specs.Answer.{keyless}
-use Rattle.loud_frames.specs.Loud.{Outcome, outcome, framesAnalysed, Stocked}
-use Rattle.positions.specs.Positions.{filledAnalysed, ranAnalysed, positionsAnalysed, Supplied}
 use Rattle.answers.specs.declared.answer.AnalyseResult.{AnalyseResult}
+use Rattle.loud_frames.specs.Loud.{AnalyseOutcome, analyseOutcome, loudAnalysed}
+use Rattle.loud_frames.specs.inside.Rows.{rowIn, framesIn, Stocked}
+use Rattle.positions.specs.Positions.{positionsAnalysed}
+use Rattle.positions.specs.inside.Supplied.{Supplied}
+
+frames-read-back : (found : List Row) (before : Rows) → framesIn (holdingFrames found before) (length found) ≡ found
+frames-read-back found before = list-same (rowIn (holdingFrames found before)) (λ (i : ℕ). getD found i d) (length found) same ∙ list-own found d
+  where
+    d : Row
+    d = rowIn before 0
+
+    same : (i : ℕ) → i < length found → rowIn (holdingFrames found before) i ≡ getD found i d
+    same i h = rw (
+      column-at (λ (r : Row). r .centre) found (before .centres) i nan d h,
+      column-at (λ (r : Row). r .values) found (before .values) i [] d h,
+      column-at (λ (r : Row). r .energy) found (before .energies) i nan d h,
+    )
+
+-- whether an answer is of a run that was stopped, where, and how many frames it says
+abbrev stopped : Filled → Bool
+stopped (All n) = false
+stopped (NotFinite k n) = true
+
+abbrev place : ℕ → Filled → ℕ
+place k (All n) = k
+place k (NotFinite j n) = j
+
+abbrev count-of : Filled → ℕ
+count-of (All n) = n
+count-of (NotFinite k n) = n
 
 module _ (c : Call) (positions : ℕ) (l : Lent) {filled : Filled} {now : Rows} (run : ran filled now ≡ runOf c positions (l .frames)) where
   pub stocked-so : {n : ℕ} → filled ≡ All n → Supplied c positions l → Stocked (c .settings) (length (c .samples)) n (withFrames now l)
@@ -32,13 +68,64 @@ module _ (c : Call) (positions : ℕ) (l : Lent) {filled : Filled} {now : Rows} 
             };
       }
 
-  -- what follows from the run's answer
-  ran-so : {o : Outcome} → o ≡ filledAnalysed (c .settings) (length (c .samples)) (withFrames now l) filled → o ≡ positionsAnalysed c positions l
+  abbrev stop : ℕ
+  stop = stopOf c positions
+
+  abbrev found : List Row
+  found = loudBefore c stop
+
+  -- what the run's answer says
+  record Says : Type 0 where
+    ended : stopped filled ≡ ltb stop positions
+    at : place stop filled ≡ stop
+    count : count-of filled ≡ length found
+    held : now ≡ holdingFrames found (l .frames)
+
+  says : Says
+  unfolding runOf
+  says =
+      record {
+        ended = ap (λ (r : Run). stopped (r .answer)) run ∙ by-stop (ltb stop positions);
+        at = ap (λ (r : Run). place stop (r .answer)) run ∙ at-stop (ltb stop positions);
+        count = ap (λ (r : Run). count-of (r .answer)) run ∙ counted (ltb stop positions);
+        held = ap (λ (r : Run). r .rows) run;
+      }
+    where
+      answer : Bool → Filled
+      answer b = cond b (NotFinite stop (length found)) (All (length found))
+
+      by-stop : (b : Bool) → stopped (answer b) ≡ b
+      by-stop true = refl
+      by-stop false = refl
+
+      at-stop : (b : Bool) → place stop (answer b) ≡ stop
+      at-stop true = refl
+      at-stop false = refl
+
+      counted : (b : Bool) → count-of (answer b) ≡ length found
+      counted true = refl
+      counted false = refl
+
+  abbrev held : Lent
+  held = withFrames (holdingFrames found (l .frames)) l
+
+  pub not-finite-so : {position n : ℕ} {r : AnalyseResult} → filled ≡ NotFinite position n → r ≡ keyless 9 position n 0 → analyseOutcome r (withFrames now l) ≡ positionsAnalysed c positions l
   unfolding positionsAnalysed
-  ran-so e = e ∙ ap (ranAnalysed c l) run
+  not-finite-so {position} {n} {r} broken e =
+      let ended : ltb stop positions ≡ true = sym (says .ended) ∙ ap stopped broken in
+      let at : position ≡ stop = sym (ap (place stop) broken) ∙ says .at in
+      let count : n ≡ length found = sym (ap count-of broken) ∙ says .count in
+      ap (λ (a : AnalyseResult). analyseOutcome a (withFrames now l)) (e ∙ ap (λ (k : ℕ). keyless 9 k n 0) at ∙ ap (λ (k : ℕ). keyless 9 stop k 0) count)
+      ∙ ap (λ (rows : Rows). analyseOutcome (keyless 9 stop (length found) 0) (withFrames rows l)) (says .held)
+      ∙ rw ended
 
-  pub not-finite-so : {position n : ℕ} {r : AnalyseResult} → filled ≡ NotFinite position n → r ≡ keyless 9 position n 0 → outcome r (withFrames now l) ≡ positionsAnalysed c positions l
-  not-finite-so broken e = ran-so (ap (λ (a : AnalyseResult). outcome a (withFrames now l)) e ∙ ap (filledAnalysed (c .settings) (length (c .samples)) (withFrames now l)) (sym broken))
-
-  pub all-so : {n : ℕ} {o : Outcome} → filled ≡ All n → o ≡ framesAnalysed (c .settings) (length (c .samples)) n (withFrames now l) → o ≡ positionsAnalysed c positions l
-  all-so all e = ran-so (e ∙ ap (filledAnalysed (c .settings) (length (c .samples)) (withFrames now l)) (sym all))
+  pub all-so : {n : ℕ} {o : AnalyseOutcome} → filled ≡ All n → o ≡ loudAnalysed (c .settings) (length (c .samples)) (framesIn now n) (withFrames now l) → o ≡ positionsAnalysed c positions l
+  unfolding positionsAnalysed
+  all-so {n} {o} all e =
+      let ended : ltb stop positions ≡ false = sym (says .ended) ∙ ap stopped all in
+      let count : n ≡ length found = sym (ap count-of all) ∙ says .count in
+      let read : framesIn now n ≡ found = ap (λ (rows : Rows). framesIn rows n) (says .held) ∙ ap (framesIn (holdingFrames found (l .frames))) count ∙ frames-read-back found (l .frames) in
+      e
+      ∙ ap (λ (x : List Row). loudAnalysed (c .settings) (length (c .samples)) x (withFrames now l)) read
+      ∙ ap (λ (rows : Rows). loudAnalysed (c .settings) (length (c .samples)) found (withFrames rows l)) (says .held)
+      ∙ rw ended

@@ -1,1 +1,2 @@
 pub mod Positions
+pub mod inside

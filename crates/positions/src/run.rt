@@ -2,8 +2,9 @@
 ghost use mathlib.Core.Path.{_≡_};
 ghost use Rattle.calls.specs.Call.{given};
 ghost use Rattle.rooms.specs.Lent.{lentAll};
-ghost use Rattle.loud_frames.specs.Loud.{outcome};
-ghost use Rattle.positions.specs.Positions.{positionsAnalysed, Supplied};
+ghost use Rattle.loud_frames.specs.Loud.{analyseOutcome};
+ghost use Rattle.positions.specs.Positions.{positionsAnalysed};
+ghost use Rattle.positions.specs.inside.Supplied.{Supplied};
 use answers::answer::AnalyseResult;
 use answers::answer::keyless;
 use calls::Settings;
@@ -37,7 +38,7 @@ pub fn analyse_positions(
     confidences: &mut [f32],
 ) -> AnalyseResult
     requires { ⌜ Supplied (given settings head samples window coefficients weights lengths qcoefficients qwindows) positions (lentAll centres values energies work middles numbers certainties starts ends keys confidences) ⌝ }
-    ensures { λ r. ⌜ outcome r (lentAll (centres .exit) (values .exit) (energies .exit) (work .exit) (middles .exit) (numbers .exit) (certainties .exit) (starts .exit) (ends .exit) (keys .exit) (confidences .exit)) ≡ positionsAnalysed (given settings head (samples .entry) (window .entry) (coefficients .entry) (weights .entry) (lengths .entry) (qcoefficients .entry) (qwindows .entry)) positions (lentAll (centres .entry) (values .entry) (energies .entry) (work .entry) (middles .entry) (numbers .entry) (certainties .entry) (starts .entry) (ends .entry) (keys .entry) (confidences .entry)) ⌝ }
+    ensures { λ r. ⌜ analyseOutcome r (lentAll (centres .exit) (values .exit) (energies .exit) (work .exit) (middles .exit) (numbers .exit) (certainties .exit) (starts .exit) (ends .exit) (keys .exit) (confidences .exit)) ≡ positionsAnalysed (given settings head (samples .entry) (window .entry) (coefficients .entry) (weights .entry) (lengths .entry) (qcoefficients .entry) (qwindows .entry)) positions (lentAll (centres .entry) (values .entry) (energies .entry) (work .entry) (middles .entry) (numbers .entry) (certainties .entry) (starts .entry) (ends .entry) (keys .entry) (confidences .entry)) ⌝ }
 {
     match fill_rows(
         settings,

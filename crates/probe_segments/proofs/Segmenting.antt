@@ -18,8 +18,8 @@ use Rattle.windows.specs.Span.{spanOf, rowsAsked, windowsOf}
 use Rattle.windows.specs.declared.span.Span.{Span}
 use Rattle.windows.proofs.Spans.{windows-asked}
 use Rattle.shortening.specs.Shorten.{settled}
-use Rattle.segments.specs.Fill.{filledOf}
-use Rattle.segments.specs.Track.{Outcome, outcome, locatedOf, Prepared}
+use Rattle.segments.specs.inside.Fill.{filledOf}
+use Rattle.segments.specs.inside.Located.{LocatedIn, locatedIn, locatedOf, Prepared}
 use Rattle.segments.specs.declared.fill.Track.{Track}
 use Rattle.segments.specs.declared.track.Located.{Located}
 use Rattle.probe_segments.specs.Segments.{isNumber, allNumbers, probedShorten, cutFits, probedCut, heardIn, fitsIn, counted, countedBy, probed, probedSegments}
@@ -106,10 +106,10 @@ module _ (s : Settings) (samples : ℕ) (t : Track) (centres : List Float) (valu
       }
 
   pub located-so : {frames : ℕ} {track : Track} {located : Located} {answer : ProbedSegments} {e' : EstimateRows} {rows' : SegmentRows} → not flag ≡ false → frames ≡ min (length centres) (length values) → track ≡ t
-      → outcome located e' rows' ≡ locatedOf span track (record { frames = frames; centres = centres; values = values }) e rows → answer ≡ countedBy located → probed answer e' rows' ≡ probedSegments s samples t (heardIn centres values) e rows
+      → locatedIn located e' rows' ≡ locatedOf span track (record { frames = frames; centres = centres; values = values }) e rows → answer ≡ countedBy located → probed answer e' rows' ≡ probedSegments s samples t (heardIn centres values) e rows
   located-so {frames} {track} {located} {answer} {e'} {rows'} f many same found counts =
-      let here : outcome located e' rows' ≡ locatedOf (spanOf s samples) t (heardIn centres values) e rows = found
+      let here : locatedIn located e' rows' ≡ locatedOf (spanOf s samples) t (heardIn centres values) e rows = found
       ∙ ap (λ (x : Span). locatedOf x track (record { frames = frames; centres = centres; values = values }) e rows) spans
       ∙ ap (λ (x : Track). locatedOf (spanOf s samples) x (record { frames = frames; centres = centres; values = values }) e rows) same
       ∙ ap (λ (n : ℕ). locatedOf (spanOf s samples) t (record { frames = n; centres = centres; values = values }) e rows) many in
-      ap (λ (a : ProbedSegments). probed a e' rows') counts ∙ ap (λ (o : Outcome). probed (countedBy (o .answer)) (o .estimates) (o .segments)) here ∙ rw (guarded (passed told f))
+      ap (λ (a : ProbedSegments). probed a e' rows') counts ∙ ap (λ (o : LocatedIn). probed (countedBy (o .answer)) (o .estimates) (o .segments)) here ∙ rw (guarded (passed told f))

@@ -15,8 +15,8 @@ use Rattle.windows.specs.Span.{spanOf, rowsAsked}
 use Rattle.gathering.specs.Gather.{Heard, heard}
 use Rattle.majorities.specs.Majority.{majorityOf}
 use Rattle.shortening.specs.Shorten.{settled}
-use Rattle.segments.specs.Fill.{filledOf}
-use Rattle.segments.specs.Track.{locatedOf}
+use Rattle.segments.specs.inside.Fill.{filledOf}
+use Rattle.segments.specs.inside.Located.{locatedOf}
 use Rattle.segments.specs.declared.fill.Track.{Track}
 use Rattle.segments.specs.declared.track.Located.{Located}
 use Rattle.segments.specs.declared.track.Located.the-variants.{Told, Halted}

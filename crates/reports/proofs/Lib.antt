@@ -1,2 +1,2 @@
 -- What the proofs of a report share.
-mod Reports
+pub mod Reports

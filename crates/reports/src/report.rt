@@ -4,8 +4,9 @@ ghost use Rattle.timeline.specs.Estimates.{lentEstimates};
 ghost use Rattle.timeline.specs.Segments.{lentSegments, segmentsIn, Room};
 ghost use Rattle.windows.specs.Span.{spanOf};
 ghost use Rattle.gathering.specs.Gather.{heard};
-ghost use Rattle.segments.specs.Track.{Prepared};
-ghost use Rattle.reports.specs.Report.{trackOf, namedIn, reported, reportOf};
+ghost use Rattle.segments.specs.inside.Located.{Prepared};
+ghost use Rattle.reports.specs.Report.{namedIn, reportOf};
+ghost use Rattle.reports.specs.inside.Rows.{trackOf, reported, reportedIn};
 use alternates::alternate::alternate_key;
 use answers::answer::AnalyseResult;
 use answers::answer::Counts;
@@ -80,7 +81,7 @@ pub fn report_track(
     confidences: &mut [f32],
 ) -> AnalyseResult
     requires { ⌜ Prepared (spanOf settings samples) (heard frames (now centres) (now values)) (lentEstimates middles numbers certainties) (lentSegments starts ends keys confidences) ⌝ }
-    ensures { λ r. ⌜ reported r (lentEstimates (middles .exit) (numbers .exit) (certainties .exit)) (lentSegments (starts .exit) (ends .exit) (keys .exit) (confidences .exit)) ≡ reportOf settings samples verdict (heard frames (now (centres .entry)) (now (values .entry))) (lentEstimates (middles .entry) (numbers .entry) (certainties .entry)) (lentSegments (starts .entry) (ends .entry) (keys .entry) (confidences .entry)) ⌝ }
+    ensures { λ r. ⌜ reported r (lentEstimates (middles .exit) (numbers .exit) (certainties .exit)) (lentSegments (starts .exit) (ends .exit) (keys .exit) (confidences .exit)) ≡ reportedIn (reportOf settings samples verdict (heard frames (now (centres .entry)) (now (values .entry)))) (lentEstimates (middles .entry) (numbers .entry) (certainties .entry)) (lentSegments (starts .entry) (ends .entry) (keys .entry) (confidences .entry)) ⌝ }
 {
     let span = span_of(settings, samples);
     let track = track_of(settings, span, verdict);

@@ -1,2 +1,3 @@
--- What the proofs share, and row 8 of the table in its own words.
+-- Row 8 of the table in its own words, and the budget of windows on a whole call.
 pub mod Rooms
+pub mod Budget

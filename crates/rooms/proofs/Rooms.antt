@@ -1,54 +1,41 @@
--- The room on either side of the comparison, and row 8 in the table's words.
+-- Row 8 in the table's words: the code's test of the room is its four tests.
 use mathlib.Core.Path.{_≡_, refl, sym, ap, _∙_}
 use mathlib.Core.Logic.{inl, inr}
-use mathlib.Core.Bool.{Bool, true, false, cond}
-use Prim.Native.Nat.{ℕ, _<_, _≤_, min}
-use mathlib.Core.List.{List, [], _∷_}
+use mathlib.Core.Bool.{Bool, true, false, _||_}
+use mathlib.Core.List.{[], _∷_}
+use Prim.Native.Nat.{ℕ, min}
 use native.Mathlib.Omega.{arith}
-use borrow.Author.Tests.{le-leb, lt-leb, lt-ltb, le-ltb, ltb-false}
-use lib.Dec.{ltb, leb}
-use lib.ListN.{length}
+use borrow.Author.Tests.{lt-ltb, le-ltb}
+use lib.Dec.{ltb}
 use Rattle.laws.specs.Table.{anyOf}
 use Rattle.laws.proofs.Cases.{lt-or-ge}
-use Rattle.laws.proofs.Table.{none-of}
-use Rattle.calls.specs.Rows.{roomIn}
-use Rattle.calls.specs.declared.Settings.{Settings}
-use Rattle.windows.specs.Span.{spanOf, rowsAsked}
-use Rattle.windows.specs.declared.span.Span.{Span}
-use Rattle.timeline.specs.Estimates.{estimateRoom}
-use Rattle.timeline.specs.Segments.{segmentRoom}
-use Rattle.rooms.specs.Room.{roomFor, RoomRefused}
 
-module _ (s : Settings) (count frames estimates segments : ℕ) {span : Span} {asked few : ℕ} (spans : span ≡ spanOf s count) (asks : asked ≡ rowsAsked span) (fewer : few ≡ min estimates segments) where
-  room-by : {b : Bool} → leb asked few ≡ b → cond b frames 0 ≡ roomFor s count frames estimates segments
-  unfolding roomFor
-  room-by {b} e = let at : rowsAsked (spanOf s count) ≡ asked = ap rowsAsked (sym spans) ∙ sym asks in rw (at, ← fewer, e)
-
-  pub enough-room : asked ≤ few → frames ≡ roomFor s count frames estimates segments
-  enough-room h = room-by (le-leb asked few h)
-
-  pub no-room : few < asked → 0 ≡ roomFor s count frames estimates segments
-  no-room h = room-by (lt-leb asked few h)
-
--- a test that cannot fail passes
-must-pass : (b : Bool) → (b ≡ false → ⊥) → b ≡ true
-must-pass true h = refl
-must-pass false h = absurd (h refl)
-
--- row 8 over the numbers of rows
-refused-by : (rows work estimates segments positions asked : ℕ) → 0 < positions → ltb (cond (leb asked (min estimates segments)) (min rows work) 0) positions ≡ anyOf (ltb rows positions ∷ ltb work positions ∷ ltb estimates asked ∷ ltb segments asked ∷ [])
-refused-by rows work estimates segments positions asked some =
-    elim (lt-or-ge (min estimates segments) asked) [
-      | inl few ↦ rw (lt-leb asked (min estimates segments) few, lt-ltb 0 positions some) (sym (must-pass (anyOf tests) (λ e. let a = ltb-false estimates asked (none-of tests e 2) in let b = ltb-false segments asked (none-of tests e 3) in omega (arith, few, a, b))))
-      | inr many ↦ rw (le-leb asked (min estimates segments) many) (elim (lt-or-ge (min rows work) positions) [
-        | inl few ↦ rw (lt-ltb (min rows work) positions few) (sym (must-pass (anyOf tests) (λ e. let a = ltb-false rows positions (none-of tests e 0) in let b = ltb-false work positions (none-of tests e 1) in omega (arith, few, a, b))))
-        | inr fits ↦ rw (le-ltb (min rows work) positions fits, le-ltb rows positions (omega (arith, fits)), le-ltb work positions (omega (arith, fits)), le-ltb estimates asked (omega (arith, many)), le-ltb segments asked (omega (arith, many)))
+-- the smaller of two is below where one of them is
+smaller-below : (a b n : ℕ) → ltb (min a b) n ≡ (ltb a n || ltb b n)
+smaller-below a b n =
+    elim (lt-or-ge a n) [
+      | inl low ↦ rw (lt-ltb (min a b) n (omega (arith, low)), lt-ltb a n low)
+      | inr high ↦ rw (le-ltb a n high) (elim (lt-or-ge b n) [
+        | inl low ↦ rw (lt-ltb (min a b) n (omega (arith, low)), lt-ltb b n low)
+        | inr both ↦ rw (le-ltb (min a b) n (omega (arith, high, both)), le-ltb b n both)
       ])
     ]
-  where
-    tests : List Bool
-    tests = ltb rows positions ∷ ltb work positions ∷ ltb estimates asked ∷ ltb segments asked ∷ []
 
-pub room-refused : RoomRefused
-unfolding roomFor
-room-refused s count positions l some = refused-by (roomIn (l .frames)) (length (l .work)) (estimateRoom (l .estimates)) (segmentRoom (l .segments)) positions (rowsAsked (spanOf s count)) some
+turned-round : (a b c d : Bool) → ((c || d) || (a || b)) ≡ (((a || b) || c) || d)
+turned-round false false false d = any d
+  where
+    any : (d : Bool) → (d || false) ≡ d
+    any true = refl
+    any false = refl
+turned-round false false true d = refl
+turned-round false true false false = refl
+turned-round false true false true = refl
+turned-round false true true d = refl
+turned-round true b false false = refl
+turned-round true b false true = refl
+turned-round true b true d = refl
+
+pub crowded-is : (rows work estimates segments positions asked : ℕ) → ((ltb estimates asked || ltb segments asked) || ltb (min rows work) positions) ≡ anyOf (ltb rows positions ∷ ltb work positions ∷ ltb estimates asked ∷ ltb segments asked ∷ [])
+crowded-is rows work estimates segments positions asked =
+    ap (λ (b : Bool). (ltb estimates asked || ltb segments asked) || b) (smaller-below rows work positions)
+    ∙ turned-round (ltb rows positions) (ltb work positions) (ltb estimates asked) (ltb segments asked)

@@ -1,7 +1,10 @@
 // What an analysis is lent, and whether it suffices: its room, for row 8 of the check table, and its haste, for row 5.
 ghost use mathlib.Core.Path.{_≡_};
+ghost use mathlib.Core.Bool.{_||_};
 ghost use Prim.Native.Nat.{min};
-ghost use Rattle.rooms.specs.Room.{hasty, roomFor};
+ghost use lib.Dec.{ltb};
+ghost use Rattle.windows.specs.Span.{spanOf, rowsAsked};
+ghost use Rattle.rooms.specs.Room.{hasty};
 use calls::Settings;
 use numbers::counts::fewer;
 use windows::span::rows_asked;
@@ -14,22 +17,17 @@ pub fn is_hasty(settings: Settings) -> bool
     settings.local_hop_seconds < 0.5
 }
 
-// The frame positions that there is room for, each with a row and a work number: none where estimates or segments are too few.
-pub fn room_for(
-    settings: Settings,
-    samples: usize,
-    rows: usize,
-    work: usize,
-    estimates: usize,
-    segments: usize,
-) -> usize
-    ensures { λ r. ⌜ r ≡ roomFor settings samples (min rows work) estimates segments ⌝ }
+// Whether estimates or segments have fewer rows than the windows ask for.
+pub fn rows_lack(settings: Settings, samples: usize, estimates: usize, segments: usize) -> bool
+    ensures { λ r. ⌜ r ≡ (ltb estimates (rowsAsked (spanOf settings samples)) || ltb segments (rowsAsked (spanOf settings samples))) ⌝ }
 {
-    let frames = fewer(rows, work);
-    let span = span_of(settings, samples);
-    if rows_asked(span) <= fewer(estimates, segments) {
-        frames
-    } else {
-        0
-    }
+    let asked = rows_asked(span_of(settings, samples));
+    (estimates < asked) | (segments < asked)
+}
+
+// The frames that there is room for: each takes a row and a work number.
+pub fn frame_room(rows: usize, work: usize) -> usize
+    ensures { λ r. ⌜ r ≡ min rows work ⌝ }
+{
+    fewer(rows, work)
 }

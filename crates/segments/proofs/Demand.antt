@@ -2,7 +2,7 @@
 use Rattle.groups.proofs.Tiled.{groups-tile}
 use Rattle.shortening.proofs.Settles.{none-left-short}
 use Rattle.shortening.proofs.Tiled.{shortening-tiles}
-use Rattle.segments.specs.Fill.{cutOf, segmentsOf}
+use Rattle.segments.specs.inside.Fill.{cutOf, segmentsOf}
 use Rattle.segments.specs.Demand.{SegmentsTile, NoSegmentShort}
 
 pub segments-tile : SegmentsTile

@@ -19,7 +19,7 @@ use Rattle.timeline.proofs.Segments.{holds-start, holds-more, holds-all, segmen
 use Rattle.groups.specs.Groups.{firstSegments, groupsOf}
 use Rattle.shortening.specs.Shorten.{shortenedOf, leftIn, settled}
 use Rattle.shortening.proofs.Settles.{left-long}
-use Rattle.segments.specs.Fill.{cutOf}
+use Rattle.segments.specs.inside.Fill.{cutOf}
 use Rattle.segments.specs.declared.fill.Track.{Track}
 
 module _ (t : Track) (rows : EstimateRows) (count : ℕ) where

@@ -1,29 +1,32 @@
 -- Laws of the whole way: what the run over the windows leaves is what the segments need, for each of its answers.
-use mathlib.Core.Path.{_≡_, sym, ap, subst, _∙_}
-use mathlib.Core.Bool.{Bool, true, false, cond}
+use mathlib.Core.Path.{_≡_, refl, sym, ap, subst, _∙_}
+use mathlib.Core.Logic.{inl, inr}
+use mathlib.Core.Bool.{Bool, true, false, not, cond}
 use mathlib.Core.List.{List}
-use Prim.Native.Nat.{ℕ, _+_, _^_, _<_, _≤_}
+use Prim.Native.Nat.{ℕ, _+_, _^_, _<_, _≤_, min}
 use native.Mathlib.Omega.{arith}
-use lib.Dec.{ltb}
+use borrow.Author.Tests.{lt-ltb, le-ltb}
 use lib.ListN.{length}
 use Rattle.laws.specs.First.{first}
 use Rattle.laws.proofs.First.{first-within}
+use Rattle.laws.proofs.Cases.{lt-or-ge}
 use Rattle.laws.proofs.Column.{column-fits}
 use Rattle.keys.specs.Numbers.{keyNumber}
 use Rattle.timeline.specs.Estimates.{EstimateRows, holdingEstimates, estimatesIn, Found}
 use Rattle.timeline.specs.Segments.{SegmentRows, Room, filled}
 use Rattle.timeline.specs.declared.estimate.Estimate.{Estimate}
-use Rattle.timeline.proofs.Estimates.{rows-numbered}
+use Rattle.timeline.proofs.Estimates.{rows-numbered, rows-read-back}
 use Rattle.windows.specs.Span.{windowsOf}
 use Rattle.gathering.specs.Gather.{Heard}
-use Rattle.windows.specs.Run.{estimatesBefore, stuckAt, Run, ran, runOf, Ready}
+use Rattle.windows.specs.Run.{estimatesBefore, stuckAt, halts, windowsPassed, estimatesOf}
+use Rattle.windows.specs.inside.Rows.{Swept, swept, sweptOf, Ready}
 use Rattle.windows.specs.declared.span.Span.{Span}
 use Rattle.windows.specs.declared.run.Estimated.{Estimated}
 use Rattle.windows.specs.declared.run.Estimated.the-variants.{All, Stuck}
 use Rattle.windows.proofs.Found.{estimates-few}
 use Rattle.windows.proofs.Spans.{windows-few}
-use Rattle.segments.specs.Fill.{filledOf}
-use Rattle.segments.specs.Track.{Outcome, outcome, told, followed, locatedOf, Prepared}
+use Rattle.segments.specs.inside.Fill.{filledOf}
+use Rattle.segments.specs.inside.Located.{locatedIn, toldIn, locatedOf, Prepared}
 use Rattle.segments.specs.declared.fill.Track.{Track}
 use Rattle.segments.specs.declared.track.Located.the-variants.{Told, Halted}
 
@@ -36,31 +39,19 @@ abbrev passed : Estimated → Bool
 passed (All n) = true
 passed (Stuck n) = false
 
--- a run that passed all windows left the estimates of some number of them, no more than there are
-pub record Passed (s : Span) (h : Heard) (windows : ℕ) (before : EstimateRows) (n : ℕ) (rows : EstimateRows) : Type 0 where
-  pub upto : ℕ
-  pub within : upto ≤ windows
-  pub count : n ≡ length (estimatesBefore s h upto)
-  pub held : rows ≡ holdingEstimates (estimatesBefore s h upto) before
-
-pub run-passed : {s : Span} {h : Heard} {windows : ℕ} {before : EstimateRows} {n : ℕ} {rows : EstimateRows} → ran (All n) rows ≡ runOf s h windows before → Passed s h windows before n rows
-unfolding runOf
-run-passed {s} {h} {windows} {before} {n} {rows} e = either (ltb k windows) e
+-- the run over a track's windows leaves its estimates, and says whether a start stayed
+pub swept-is : (s : Span) (h : Heard) (before : EstimateRows) → let found = estimatesOf s h in sweptOf s h (windowsOf s) before ≡ swept (cond (halts s) (Stuck (length found)) (All (length found))) (holdingEstimates found before)
+unfolding sweptOf halts windowsPassed
+swept-is s h before = elim (lt-or-ge k windows) [
+    | inl stays ↦ let all : min (k + 1) windows ≡ k + 1 = omega (arith, stays) in rw (lt-ltb k windows stays, all)
+    | inr goes ↦ let all : min (k + 1) windows ≡ k = omega (arith, goes, first-within (stuckAt s) windows 0) in rw (le-ltb k windows goes, all)
+  ]
   where
+    windows : ℕ
+    windows = windowsOf s
+
     k : ℕ
     k = first (stuckAt s) windows 0
-
-    either : (b : Bool)
-        → ran (All n) rows ≡ cond b (ran (Stuck (length (estimatesBefore s h (k + 1)))) (holdingEstimates (estimatesBefore s h (k + 1)) before)) (ran (All (length (estimatesBefore s h k))) (holdingEstimates (estimatesBefore s h k) before))
-        → Passed s h windows before n rows
-    either true e = let never : true ≡ false = ap (λ (r : Run). passed (r .answer)) e in let z : _≡_ {A = ℕ} 0 1 = cc in absurd (omega (arith, z))
-    either false e =
-        record {
-          upto = k;
-          within = let most = first-within (stuckAt s) windows 0 in omega (arith, most);
-          count = ap (λ (r : Run). count-of (r .answer)) e;
-          held = ap (λ (r : Run). r .rows) e;
-        }
 
 held-found : (found : List Estimate) (before : EstimateRows) → length found < 2 ^ 32 → Found (holdingEstimates found before) (length found)
 held-found found before few =
@@ -76,26 +67,53 @@ pub prepared-run : {s : Span} {h : Heard} {before : EstimateRows} {segments : Se
 prepared-run {h = h} {before = before} all p = subst (Ready h before) (sym all) (p .ready)
 
 module _ (s : Span) (h : Heard) (before : EstimateRows) {windows : ℕ} (all : windows ≡ windowsOf s) where
-  module _ {n : ℕ} {rows : EstimateRows} (run : ran (All n) rows ≡ runOf s h windows before) where
+  abbrev found : List Estimate
+  found = estimatesOf s h
+
+  told-by : {answer : Estimated} {rows : EstimateRows} → swept answer rows ≡ sweptOf s h windows before → swept answer rows ≡ swept (cond (halts s) (Stuck (length found)) (All (length found))) (holdingEstimates found before)
+  told-by run = run ∙ ap (λ (k : ℕ). sweptOf s h k before) all ∙ swept-is s h before
+
+  -- what an answer of the run says of the track
+  record Says (answer : Estimated) (rows : EstimateRows) : Type 0 where
+    count : count-of answer ≡ length found
+    halting : halts s ≡ not (passed answer)
+    held : rows ≡ holdingEstimates found before
+
+  says : {answer : Estimated} {rows : EstimateRows} → swept answer rows ≡ sweptOf s h windows before → Says answer rows
+  says {answer} {rows} run =
+      let e = told-by run in
+      record {
+        count = ap (λ (r : Swept). count-of (r .answer)) e ∙ counted (halts s) (length found);
+        halting = sym (ap (λ (r : Swept). not (passed (r .answer))) e ∙ halted-by (halts s) (length found));
+        held = ap (λ (r : Swept). r .rows) e;
+      }
+    where
+      counted : (b : Bool) (n : ℕ) → count-of (cond b (Stuck n) (All n)) ≡ n
+      counted true n = refl
+      counted false n = refl
+
+      halted-by : (b : Bool) (n : ℕ) → not (passed (cond b (Stuck n) (All n))) ≡ b
+      halted-by true n = refl
+      halted-by false n = refl
+
+  module _ {n : ℕ} {rows : EstimateRows} (run : swept (All n) rows ≡ sweptOf s h windows before) where
     pub passed-few : n ≤ windowsOf s
+    unfolding windowsPassed
     passed-few =
-        let p = run-passed run in
-        let few = estimates-few s h (p .upto) in
-        omega (arith, p .count, p .within, few, all)
+        let few = estimates-few s h (windowsPassed s) in
+        omega (arith, says run .count, few)
 
     pub passed-found : Found rows n
     passed-found =
-        let p = run-passed run in
-        let found = estimatesBefore s h (p .upto) in
         let most = windows-few s in
         let few = passed-few in
-        let small : length found < 2 ^ 32 = omega (arith, most, few, p .count) in
-        subst (λ (r : EstimateRows). Found r n) (sym (p .held)) (subst (Found (holdingEstimates found before)) (sym (p .count)) (held-found found before small))
+        let small : length found < 2 ^ 32 = omega (arith, most, few, says run .count) in
+        subst (λ (r : EstimateRows). Found r n) (sym (says run .held)) (subst (Found (holdingEstimates found before)) (sym (says run .count)) (held-found found before small))
 
   -- what filling the rows needs, after a run that passed all windows
-  pub passed-needs : {n : ℕ} {answer : Estimated} {rows : EstimateRows} (segments : SegmentRows) → Prepared s h before segments → answer ≡ All n → ran answer rows ≡ runOf s h windows before → Found rows n × Room segments n × Room segments 1
+  pub passed-needs : {n : ℕ} {answer : Estimated} {rows : EstimateRows} (segments : SegmentRows) → Prepared s h before segments → answer ≡ All n → swept answer rows ≡ sweptOf s h windows before → Found rows n × Room segments n × Room segments 1
   passed-needs {n} {answer} {rows} segments ready a run =
-      let all-run = sym (ap (λ (x : Estimated). ran x rows) a) ∙ run in
+      let all-run = sym (ap (λ (x : Estimated). swept x rows) a) ∙ run in
       let few = passed-few all-run in (
         passed-found all-run,
         record {
@@ -107,16 +125,18 @@ module _ (s : Span) (h : Heard) (before : EstimateRows) {windows : ℕ} (all : w
         ready .one,
       )
 
-  abbrev follow : Track → SegmentRows → Run → Outcome
-  follow t segments r = followed t (r .rows) segments (r .answer)
-
-  -- what the whole way comes to, by the run's answer
-  located : (t : Track) (segments : SegmentRows) {answer : Estimated} {rows : EstimateRows} → ran answer rows ≡ runOf s h windows before → followed t rows segments answer ≡ locatedOf s t h before segments
+  pub halted : (t : Track) (segments : SegmentRows) {n : ℕ} {answer : Estimated} {rows : EstimateRows} → answer ≡ Stuck n → swept answer rows ≡ sweptOf s h windows before → locatedIn (Halted n) rows segments ≡ locatedOf s t h before segments
   unfolding locatedOf
-  located t segments run = ap (follow t segments) (run ∙ ap (λ (k : ℕ). runOf s h k before) all)
+  halted t segments {n} {answer} {rows} a run =
+      let told = says (sym (ap (λ (x : Estimated). swept x rows) a) ∙ run) in
+      rw (told .halting, told .held) (ap (λ (k : ℕ). locatedIn (Halted k) (holdingEstimates found before) segments) (told .count))
 
-  pub halted : (t : Track) (segments : SegmentRows) {n : ℕ} {answer : Estimated} {rows : EstimateRows} → answer ≡ Stuck n → ran answer rows ≡ runOf s h windows before → outcome (Halted n) rows segments ≡ locatedOf s t h before segments
-  halted t segments {rows = rows} a run = sym (ap (followed t rows segments) a) ∙ located t segments run
-
-  pub told-all : (t : Track) (segments : SegmentRows) {n count : ℕ} {answer : Estimated} {rows : EstimateRows} {after : SegmentRows} → answer ≡ All n → ran answer rows ≡ runOf s h windows before → filled count after ≡ filledOf t (estimatesIn rows n) segments → outcome (Told n count) rows after ≡ locatedOf s t h before segments
-  told-all t segments {n} {rows = rows} a run fill = ap (told n rows) fill ∙ sym (ap (followed t rows segments) a) ∙ located t segments run
+  pub told-all : (t : Track) (segments : SegmentRows) {n count : ℕ} {answer : Estimated} {rows : EstimateRows} {after : SegmentRows} → answer ≡ All n → swept answer rows ≡ sweptOf s h windows before → filled count after ≡ filledOf t (estimatesIn rows n) segments → locatedIn (Told n count) rows after ≡ locatedOf s t h before segments
+  unfolding locatedOf
+  told-all t segments {n} {rows = rows} a run fill =
+      let told = says (sym (ap (λ (x : Estimated). swept x rows) a) ∙ run) in
+      let read : estimatesIn rows n ≡ found = ap (λ (r : EstimateRows). estimatesIn r n) (told .held) ∙ ap (estimatesIn (holdingEstimates found before)) (told .count) ∙ rows-read-back found before in
+      ap (toldIn n rows) (fill ∙ ap (λ (l : List Estimate). filledOf t l segments) read)
+      ∙ ap (λ (k : ℕ). toldIn k rows (filledOf t found segments)) (told .count)
+      ∙ ap (λ (r : EstimateRows). toldIn (length found) r (filledOf t found segments)) (told .held)
+      ∙ rw (told .halting)

@@ -1,3 +1,2 @@
-pub mod Fill
-pub mod Track
 pub mod Demand
+pub mod inside

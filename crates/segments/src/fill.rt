@@ -4,7 +4,7 @@ ghost use Prim.Native.Nat.{_<_, _≤_};
 ghost use lib.ListN.{length};
 ghost use Rattle.timeline.specs.Estimates.{Found, lentEstimates, estimatesIn};
 ghost use Rattle.timeline.specs.Segments.{Room, lentSegments, filled, standing};
-ghost use Rattle.segments.specs.Fill.{filledOf, cutOf};
+ghost use Rattle.segments.specs.inside.Fill.{filledOf, cutOf};
 use groups::cut::cut_groups;
 use keys::Key;
 use shortening::shorten::shorten_segments;

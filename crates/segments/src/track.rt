@@ -3,7 +3,7 @@ ghost use mathlib.Core.Path.{_≡_};
 ghost use Rattle.timeline.specs.Estimates.{lentEstimates};
 ghost use Rattle.timeline.specs.Segments.{lentSegments};
 ghost use Rattle.gathering.specs.Gather.{heard};
-ghost use Rattle.segments.specs.Track.{outcome, locatedOf, Prepared};
+ghost use Rattle.segments.specs.inside.Located.{locatedIn, locatedOf, Prepared};
 use crate::fill::Track;
 use crate::fill::fill_segments;
 use windows::run::Estimated;
@@ -33,7 +33,7 @@ pub fn locate_segments(
     confidences: &mut [f32],
 ) -> Located
     requires { ⌜ Prepared span (heard frames (now centres) (now values)) (lentEstimates middles numbers certainties) (lentSegments starts ends keys confidences) ⌝ }
-    ensures { λ r. ⌜ outcome r (lentEstimates (middles .exit) (numbers .exit) (certainties .exit)) (lentSegments (starts .exit) (ends .exit) (keys .exit) (confidences .exit)) ≡ locatedOf span track (heard frames (now (centres .entry)) (now (values .entry))) (lentEstimates (middles .entry) (numbers .entry) (certainties .entry)) (lentSegments (starts .entry) (ends .entry) (keys .entry) (confidences .entry)) ⌝ }
+    ensures { λ r. ⌜ locatedIn r (lentEstimates (middles .exit) (numbers .exit) (certainties .exit)) (lentSegments (starts .exit) (ends .exit) (keys .exit) (confidences .exit)) ≡ locatedOf span track (heard frames (now (centres .entry)) (now (values .entry))) (lentEstimates (middles .entry) (numbers .entry) (certainties .entry)) (lentSegments (starts .entry) (ends .entry) (keys .entry) (confidences .entry)) ⌝ }
 {
     let windows = count_windows(span);
     let run = fill_estimates(

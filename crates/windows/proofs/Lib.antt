@@ -5,3 +5,4 @@ pub mod Runs
 pub mod Budget
 pub mod Rising
 pub mod Spans
+pub mod Alike

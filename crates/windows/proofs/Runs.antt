@@ -16,7 +16,8 @@ use Rattle.windows.specs.Span.{startOf}
 use Rattle.gathering.specs.Gather.{Heard, heard}
 use Rattle.gathering.specs.Ahead.{aheadOf, skippedTo, Known}
 use Rattle.timeline.specs.Estimates.{EstimateRows, estimateRows, holdingEstimates}
-use Rattle.windows.specs.Run.{estimateFrom, silent, estimatesBefore, stays, stuckAt, Written, wrote, windowWritten, ran, runTo, runOf, Ready}
+use Rattle.windows.specs.Run.{estimateFrom, silent, estimatesBefore, stays, stuckAt}
+use Rattle.windows.specs.inside.Rows.{Written, wrote, windowWritten, swept, sweptTo, sweptOf, Ready}
 use Rattle.gathering.specs.declared.ahead.Ahead.{Ahead}
 use Rattle.windows.specs.declared.span.Span.{Span}
 use Rattle.timeline.specs.declared.estimate.Estimate.{Estimate}
@@ -92,19 +93,19 @@ reached-start s {h} {windows} {before} ready all =
     }
 
 -- what is held where the run ends at k
-held-at : {now : EstimateRows} {s : Span} {h : Heard} {before : EstimateRows} {k n : ℕ} (answer : ℕ → Estimated) → Holds s h before now k n → let found = estimatesBefore s h k in ran (answer n) now ≡ ran (answer (length found)) (holdingEstimates found before)
+held-at : {now : EstimateRows} {s : Span} {h : Heard} {before : EstimateRows} {k n : ℕ} (answer : ℕ → Estimated) → Holds s h before now k n → let found = estimatesBefore s h k in swept (answer n) now ≡ swept (answer (length found)) (holdingEstimates found before)
 held-at {now} answer holds =
-    ap (λ (m : ℕ). ran (answer m) now) (holds .count) ∙ ap (ran _) (same-rows (holds .centres .here) (holds .keys .here) (holds .confidences .here))
+    ap (λ (m : ℕ). swept (answer m) now) (holds .count) ∙ ap (swept _) (same-rows (holds .centres .here) (holds .keys .here) (holds .confidences .here))
 
 module _ {s : Span} {h : Heard} {windows : ℕ} {before now : EstimateRows} {a : Ahead} {start : Float} {k n : ℕ} (reached : Reached s h windows before now a start k n) where
-  pub reached-end : windows ≤ k → ran (All n) now ≡ runOf s h windows before
-  unfolding runOf
+  pub reached-end : windows ≤ k → swept (All n) now ≡ sweptOf s h windows before
+  unfolding sweptOf
   reached-end all =
       let found = estimatesBefore s h k in
-      let told : ran (All (length found)) (holdingEstimates found before) ≡ runTo s h windows k before = rw (le-ltb k windows all) in
+      let told : swept (All (length found)) (holdingEstimates found before) ≡ sweptTo s h windows k before = rw (le-ltb k windows all) in
       held-at All (reached .holds)
       ∙ told
-      ∙ ap (λ (j : ℕ). runTo s h windows j before) (first-end (stuckAt s) windows k (reached .ahead) all)
+      ∙ ap (λ (j : ℕ). sweptTo s h windows j before) (first-end (stuckAt s) windows k (reached .ahead) all)
 
   -- in a turn, where the frames before the start were skipped
   module _ (inside : k < windows) {next : Ahead} (skipped : next ≡ skippedTo a start (h .centres)) where
@@ -127,11 +128,11 @@ module _ {s : Span} {h : Heard} {windows : ℕ} {before now : EstimateRows} {a :
             holds = reached-held;
           }
 
-      pub reached-stuck : stays s start ≡ true → ran (Stuck m) after ≡ runOf s h windows before
-      unfolding runOf
+      pub reached-stuck : stays s start ≡ true → swept (Stuck m) after ≡ sweptOf s h windows before
+      unfolding sweptOf
       reached-stuck stuck =
           let found = estimatesBefore s h (k + 1) in
-          let told : ran (Stuck (length found)) (holdingEstimates found before) ≡ runTo s h windows k before = rw (lt-ltb k windows inside) in
+          let told : swept (Stuck (length found)) (holdingEstimates found before) ≡ sweptTo s h windows k before = rw (lt-ltb k windows inside) in
           held-at Stuck reached-held
           ∙ told
-          ∙ ap (λ (j : ℕ). runTo s h windows j before) (first-out (stuckAt s) windows k (reached .ahead) inside (stuck-here s k (reached .at) stuck))
+          ∙ ap (λ (j : ℕ). sweptTo s h windows j before) (first-out (stuckAt s) windows k (reached .ahead) inside (stuck-here s k (reached .at) stuck))

@@ -1,5 +1,4 @@
--- The span of a track that passes the checks: whole numbers divide with one rounding, so the duration is no longer than the longest track, and a track
--- that is not brief has a window.
+-- The span of a track that passes the checks: whole numbers divide with one rounding, so the duration is no longer than the longest track.
 use mathlib.Core.Path.{_≡_, refl, sym, ap, subst, subst₂, _∙_}
 use mathlib.Core.Logic.{_⊎_, inl, inr}
 use mathlib.Core.Bool.{Bool, true, false, not, cond, true≢false}
@@ -25,7 +24,8 @@ use Rattle.laws.proofs.Zero.{plusZero-add, add-right}
 use Rattle.laws.proofs.Middle.{modest-under}
 use Rattle.laws.proofs.Parts.{whole-is, parts-rounds, parts-modest}
 use Rattle.calls.specs.declared.Settings.{Settings}
-use Rattle.windows.specs.Span.{spanOf, startOf, brief, endsAt, budgetFor, longestTrack, windowsWithin, windowsOf, rowsAsked}
+use Rattle.windows.specs.Span.{spanOf, startOf, brief, endsAt, budgetFor, windowsWithin, windowsOf, rowsAsked}
+use Rattle.calls.specs.Call.{longestTrack}
 use Rattle.windows.specs.Rising.{Timed}
 use Rattle.windows.specs.declared.span.Span.{Span}
 use Rattle.windows.proofs.Starts.{start-first}
@@ -33,12 +33,13 @@ use Rattle.windows.proofs.Starts.{start-first}
 -- ---- how many windows
 -- no more windows than rows are asked for
 pub windows-asked : (s : Span) → windowsOf s ≤ rowsAsked s
-unfolding windowsOf rowsAsked
-windows-asked s = either (brief s) (windowsWithin (budgetFor longestTrack) s)
-  where
-    either : (b : Bool) (n : ℕ) → cond b 0 n ≤ cond b 1 n
-    either true n = omega arith
-    either false n = omega arith
+unfolding rowsAsked
+windows-asked s = omega arith
+
+-- a row at least is asked for
+pub some-asked : (s : Span) → 0 < rowsAsked s
+unfolding rowsAsked
+some-asked s = omega arith
 
 -- the budget holds the windows far below what a count can be
 pub windows-few : (s : Span) → windowsOf s ≤ 28_801
@@ -48,30 +49,6 @@ windows-few s = either (brief s) (first-within (endsAt s) 28_801 0)
     either : (b : Bool) → first (endsAt s) 28_801 0 ≤ 0 + 28_801 → cond b 0 (first (endsAt s) 28_801 0) ≤ 28_801
     either true h = omega arith
     either false h = omega arith
-
-module _ (s : Span) (timed : Timed s) where
-  -- a window and a hop fit into the duration, so the window at +0 does
-  first-inside : brief s ≡ false → endsAt s 0 ≡ false
-  unfolding brief endsAt
-  first-inside e =
-      let window = s .window in
-      let c = nonneg→clear window (timed .window .at-least-zero) in
-      let both = add binary64 window (s .hop) in
-      let fits-in : T (le both (s .duration)) = not-lt→le (s .duration) both (nonneg→ordered (s .duration) (timed .duration .held .at-least-zero)) (clear→ordered both (add-clear binary64 window (s .hop) c (timed .hop))) (subst (λ (b : Bool). T (not b)) (sym e) tt) in
-      let alone = le-trans window both (s .duration) (add-right binary64 window (s .hop) (timed .window .in-format) c (timed .hop)) fits-in in
-      let at : add binary64 plusZero window ≡ window = plusZero-add binary64 window (timed .window .in-format) c in
-      let here = subst (λ (x : Float). T (le (add binary64 x window) (s .duration))) (start-first s) (subst (λ (x : Float). T (le x (s .duration))) (sym at) alone) in
-      ap not (is-true (le (add binary64 (startOf s 0) window) (s .duration)) here)
-
-  -- a row at least is asked for
-  pub some-asked : 0 < rowsAsked s
-  unfolding rowsAsked windowsWithin
-  some-asked = either (brief s) refl (first-or-end (endsAt s) 28_801 0)
-    where
-      either : (b : Bool) → brief s ≡ b → (endsAt s (first (endsAt s) 28_801 0) ≡ true) ⊎ (first (endsAt s) 28_801 0 ≡ 0 + 28_801) → 0 < cond b 1 (first (endsAt s) 28_801 0)
-      either true e found = omega arith
-      either false e (inl passes) = pos-of-ne-zero (λ none. true≢false (sym passes ∙ ap (endsAt s) none ∙ first-inside e))
-      either false e (inr all) = omega (arith, all)
 
 -- ---- the duration
 -- of a whole number by another the quotient is rounded once

@@ -3,3 +3,4 @@ pub mod Estimates
 pub mod Run
 pub mod Budget
 pub mod Rising
+pub mod inside

@@ -1,21 +1,17 @@
--- The run over the windows, written from the Rust's `estimate_segments`. Definitions only.
-use Prim.Native.Nat.{ℕ, zero, suc, _+_, _≤_}
-use mathlib.Core.Bool.{Bool, cond, not}
+-- The windows of a track in turn, and the estimates of those that are not silent, written from the Rust's `estimate_segments`. Definitions only.
+use Prim.Native.Nat.{ℕ, zero, suc, _+_, min}
+use mathlib.Core.Bool.{Bool, not, cond}
 use mathlib.Core.List.{List, [], _∷_, _++_}
-use lib.ListN.{length}
 use lib.Dec.{ltb, eqb}
 use lib.Ieee.{Float, binary64, add, lt}
 use Rattle.laws.specs.First.{first}
 use Rattle.laws.specs.Convert.{half}
-use Rattle.windows.specs.Span.{startOf}
+use Rattle.windows.specs.Span.{startOf, windowsOf}
 use Rattle.gathering.specs.Gather.{Heard, gatheredOf}
-use Rattle.timeline.specs.Estimates.{EstimateRows, putEstimate, holdingEstimates}
 use Rattle.windows.specs.Estimates.{estimateOf}
 use Rattle.windows.specs.declared.span.Span.{Span}
 use Rattle.gathering.specs.declared.gather.Gathered.{Gathered}
 use Rattle.timeline.specs.declared.estimate.Estimate.{Estimate}
-use Rattle.windows.specs.declared.run.Estimated.{Estimated}
-use Rattle.windows.specs.declared.run.Estimated.the-variants.{All, Stuck}
 
 -- what is gathered in the window that starts there
 unfoldable pub gatheredFrom : Span → Heard → Float → Gathered
@@ -42,43 +38,14 @@ stays s start = not (lt start (add binary64 start (s .hop)))
 unfoldable pub stuckAt : Span → ℕ → Bool
 stuckAt s k = stays s (startOf s k)
 
--- how many estimates there are after a window, and the rows that hold them
-pub record Written : Type 0 where
-  pub count : ℕ
-  pub rows : EstimateRows
+-- a start stays: number 10
+unfoldable pub halts : Span → Bool
+halts s = ltb (first (stuckAt s) (windowsOf s) 0) (windowsOf s)
 
--- both together
-abbrev pub wrote : ℕ → EstimateRows → Written
-wrote count rows = record { count = count; rows = rows }
+-- the windows that are passed: all, or up to the first after which the start stays, that one too
+unfoldable pub windowsPassed : Span → ℕ
+windowsPassed s = min (first (stuckAt s) (windowsOf s) 0 + 1) (windowsOf s)
 
--- the estimate of one window goes into place n
-unfoldable pub windowWritten : Span → Heard → Float → ℕ → EstimateRows → Written
-windowWritten s h start n before = cond (silent s h start) (wrote n before) (wrote (n + 1) (putEstimate (estimateFrom s h start) n before))
-
--- what a run answers, and what it leaves
-pub record Run : Type 0 where
-  pub answer : Estimated
-  pub rows : EstimateRows
-
--- both together
-abbrev pub ran : Estimated → EstimateRows → Run
-ran answer rows = record { answer = answer; rows = rows }
-
--- it goes through the window after which the start stays, or through all
-abbrev pub runTo : Span → Heard → ℕ → ℕ → EstimateRows → Run
-runTo s h windows k before =
-    cond (ltb k windows)
-    (ran (Stuck (length (estimatesBefore s h (k + 1)))) (holdingEstimates (estimatesBefore s h (k + 1)) before))
-    (ran (All (length (estimatesBefore s h k))) (holdingEstimates (estimatesBefore s h k) before))
-
--- over so many windows
-unfoldable pub runOf : Span → Heard → ℕ → EstimateRows → Run
-runOf s h windows before = runTo s h windows (first (stuckAt s) windows 0) before
-
--- what a run needs: frames that are there, and room for an estimate to each window
-pub record Ready (h : Heard) (before : EstimateRows) (windows : ℕ) : Type 0 where
-  pub timed : h .frames ≤ length (h .centres)
-  pub valued : h .frames ≤ length (h .values)
-  pub centres : windows ≤ length (before .centres)
-  pub keys : windows ≤ length (before .keys)
-  pub confidences : windows ≤ length (before .confidences)
+-- the estimates of a track
+abbrev pub estimatesOf : Span → Heard → List Estimate
+estimatesOf s h = estimatesBefore s h (windowsPassed s)

@@ -1,11 +1,12 @@
 -- The time that windows run over and where each starts, written from the Rust's `analyze` and `estimate_segments`. Definitions only.
-use Prim.Native.Nat.{ℕ, _+_, _*_}
+use Prim.Native.Nat.{ℕ, _+_, _*_, max}
 use mathlib.Core.Bool.{Bool, not, cond}
 use lib.IntN.{pos}
 use lib.Ieee.{Float, binary64, ofInt, add, div, lt, le}
 use Rattle.laws.specs.Turns.{turns}
 use Rattle.laws.specs.First.{first}
 use Rattle.laws.specs.Values.{plusZero}
+use Rattle.calls.specs.Call.{longestTrack}
 use Rattle.calls.specs.declared.Settings.{Settings}
 use Rattle.windows.specs.declared.span.Span.{Span}
 
@@ -42,10 +43,6 @@ endsAt s k = overhangs s (startOf s k)
 abbrev pub budgetFor : ℕ → ℕ
 budgetFor seconds = 2 * seconds + 1
 
--- the longest track in seconds
-abbrev pub longestTrack : ℕ
-longestTrack = 14_400
-
 -- how many windows there are, no more than the budget
 unfoldable pub windowsWithin : ℕ → Span → ℕ
 windowsWithin budget s = first (endsAt s) budget 0
@@ -54,6 +51,6 @@ windowsWithin budget s = first (endsAt s) budget 0
 unfoldable pub windowsOf : Span → ℕ
 windowsOf s = cond (brief s) 0 (windowsWithin (budgetFor longestTrack) s)
 
--- 01's W: the rows that estimates and segments may take
+-- 01's W: the rows that estimates and segments may take, one at least
 unfoldable pub rowsAsked : Span → ℕ
-rowsAsked s = cond (brief s) 1 (windowsWithin (budgetFor longestTrack) s)
+rowsAsked s = max 1 (windowsOf s)

@@ -5,7 +5,7 @@ ghost use lib.ListN.{length};
 ghost use Rattle.gathering.specs.Gather.{heard};
 ghost use Rattle.gathering.specs.Ahead.{Known};
 ghost use Rattle.timeline.specs.Estimates.{lentEstimates};
-ghost use Rattle.windows.specs.Run.{windowWritten, wrote, ran, runOf, Ready};
+ghost use Rattle.windows.specs.inside.Rows.{windowWritten, wrote, swept, sweptOf, Ready};
 use crate::estimate::estimate_of;
 use crate::span::Span;
 use gathering::ahead::Ahead;
@@ -57,7 +57,7 @@ pub fn fill_estimates(
     confidences: &mut [f32],
 ) -> Estimated
     requires { ⌜ Ready (heard frames (now centres) (now values)) (lentEstimates middles keys confidences) windows ⌝ }
-    ensures { λ r. ⌜ ran r (lentEstimates (middles .exit) (keys .exit) (confidences .exit)) ≡ runOf span (heard frames (now (centres .entry)) (now (values .entry))) windows (lentEstimates (middles .entry) (keys .entry) (confidences .entry)) ⌝ }
+    ensures { λ r. ⌜ swept r (lentEstimates (middles .exit) (keys .exit) (confidences .exit)) ≡ sweptOf span (heard frames (now (centres .entry)) (now (values .entry))) windows (lentEstimates (middles .entry) (keys .entry) (confidences .entry)) ⌝ }
 {
     let mut ahead = look_ahead(frames, centres);
     let mut start = 0.0;

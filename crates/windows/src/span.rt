@@ -1,7 +1,9 @@
 // The time that windows run over, and how many there are.
 ghost use mathlib.Core.Path.{_≡_};
 ghost use Prim.Native.Nat.{_<_, _^_};
-ghost use Rattle.windows.specs.Span.{spanOf, brief, budgetFor, longestTrack, windowsWithin, windowsOf, rowsAsked};
+ghost use Rattle.calls.specs.Call.{longestTrack};
+ghost use Rattle.windows.specs.Span.{spanOf, brief, budgetFor, windowsWithin, windowsOf, rowsAsked};
+use calls::LONGEST_TRACK;
 use calls::Settings;
 use conversions::widen;
 
@@ -13,7 +15,7 @@ pub struct Span {
 }
 
 // The budget for the longest track: two windows a second, and one more.
-const BUDGET: usize = 28_801;
+const BUDGET: usize = 2 * LONGEST_TRACK + 1;
 
 // The span of a track of so many samples.
 pub fn span_of(settings: Settings, samples: usize) -> Span
@@ -58,9 +60,10 @@ pub fn count_windows(span: Span) -> usize
     if is_brief(span) { 0 } else { passes(span) }
 }
 
-// 01's W: how many rows estimates and segments may take.
+// 01's W: how many rows estimates and segments may take, one at least.
 pub fn rows_asked(span: Span) -> usize
     ensures { λ r. ⌜ r ≡ rowsAsked span ⌝ }
 {
-    if is_brief(span) { 1 } else { passes(span) }
+    let windows = count_windows(span);
+    if windows < 1 { 1 } else { windows }
 }

@@ -1,6 +1,8 @@
 -- Each return is the row that its tests lead to.
 use Prim.Native.Nat.{ℕ}
 use mathlib.Core.Path.{_≡_, ap, _∙_}
+use mathlib.Core.Bool.{Bool, _||_}
+use lib.Dec.{ltb}
 use lib.ListN.{length, drop}
 use borrow.Author.Tests.{lt-ltb, le-ltb}
 use Rattle.laws.proofs.Table.{Reads, end, here, next, reads, told, told-not}
@@ -17,9 +19,13 @@ use Rattle.checks.proofs.check.Tie as tie
 abbrev asked : tie.Start → Call
 asked s = let a = s .args in given (a .settings) (a .head) (a .samples) (a .window) (a .coefficients) (a .weights) (a .lengths) (a .qcoefficients) (a .qwindows)
 
+-- row 8's test
+abbrev crowded : tie.Start → Bool
+crowded s = s .args .few || ltb (s .args .room) (positionsOf (s .args .settings) (length (s .args .samples .now)))
+
 -- where k tests failed, the rows of the table below them decide
 abbrev Past : tie.Start → ℕ → Type 0
-Past s k = (answer : Checked) → Reads (Go (positionsOf (s .args .settings) (length (s .args .samples .now)))) (drop k (table (asked s) (s .args .hasty) (s .args .room))) answer → answer ≡ checked (asked s) (s .args .hasty) (s .args .room)
+Past s k = (answer : Checked) → Reads (Go (positionsOf (s .args .settings) (length (s .args .samples .now)))) (drop k (table (asked s) (s .args .hasty) (crowded s))) answer → answer ≡ checked (asked s) (s .args .hasty) (crowded s)
 
 past0 : (s : tie.Start) → Past s 0
 unfolding checked
@@ -102,10 +108,10 @@ frame-positions-requires c κs =
     (w .hops, w .framed, w .enough)
 
 returns-9 : tie.Need-returns-9
-returns-9 c = past8 (c .before .before) _ (here (lt-ltb _ _ (rw (c .before .frame-positions .ensures) at (c .if9 .taken))))
+returns-9 c = past8 (c .before .before) _ (here (rw (c .before .frame-positions .ensures) at (c .if9 .taken)))
 
 returns-10 : tie.Need-returns-10
-returns-10 c = ap Go (c .before .frame-positions .ensures) ∙ past8 (c .before .before) _ (next (le-ltb _ _ (rw (c .before .frame-positions .ensures) at (c .if9 .left))) end)
+returns-10 c = ap Go (c .before .frame-positions .ensures) ∙ past8 (c .before .before) _ (next (rw (c .before .frame-positions .ensures) at (c .if9 .left)) end)
 
 pub check-spec : {M : Type 1} → statement M
 check-spec =

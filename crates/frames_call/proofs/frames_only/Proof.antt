@@ -1,14 +1,13 @@
 -- The checks decide, and a call that passes them has what the run needs.
 use mathlib.Core.Path.{_≡_}
 use Prim.Native.Nat.{_<_}
-use native.Mathlib.Nat.{le-refl}
 use mathlib.Core.Bool.{false}
 use Rattle.calls.specs.Call.{Call, given}
-use Rattle.calls.specs.Rows.{Rows, lentRows, roomIn}
-use Rattle.checks.specs.Checks.{checked}
+use Rattle.calls.specs.Rows.{Rows, lentRows}
 use Rattle.checks.specs.declared.Checked.{Checked}
 use Rattle.frames.proofs.Passes.{ready}
-use Rattle.frames_call.proofs.Outcomes.{verdict, refused-so, empty-so, finished-so}
+use Rattle.frames_call.specs.FramesOnly.{framesTable}
+use Rattle.frames_call.proofs.Outcomes.{verdict, roomy, refused-so, empty-so, finished-so}
 use borrow.Author.Needs.{needs}
 use Rattle.frames_call.proofs.frames_only.Statement.{statement}
 use Rattle.frames_call.proofs.frames_only.Tie as tie
@@ -24,7 +23,7 @@ rented s = let a = s .args in lentRows (a .centres) (a .values) (a .energies)
 abbrev start : tie.After-check → tie.Start
 start c = c .before .before .before .before .before .before .before .before .before .before .before
 
-told : (c : tie.After-check) (known : Checked) → c .check .result ≡ known → checked (asked (start c)) false (roomIn (rented (start c))) ≡ known
+told : (c : tie.After-check) (known : Checked) → c .check .result ≡ known → framesTable (asked (start c)) (rented (start c)) ≡ known
 told c known e = verdict (asked (start c)) (rented (start c)) (c .before .fewest .ensures) (c .check .ensures) e
 
 -- a note is a byte
@@ -56,7 +55,8 @@ fill-rows-requires : tie.Need-fill-rows-requires
 fill-rows-requires c κs =
     let go = c .before .before .before .before in
     let answer = go .before .before in
-    ready (asked (start answer)) false (roomIn (rented (start answer))) (rented (start answer)) _ (byte-note (start answer)) (le-refl _) (told answer _ (go .positions .given .1))
+    let e = told answer _ (go .positions .given .1) in
+    ready (asked (start answer)) false _ (rented (start answer)) _ (byte-note (start answer)) (roomy (asked (start answer)) (rented (start answer)) _ e) e
 
 finished-requires : tie.Need-finished-requires
 finished-requires c κs = search needs

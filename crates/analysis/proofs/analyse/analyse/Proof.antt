@@ -6,9 +6,8 @@ use Rattle.calls.specs.Call.{Call, given}
 use Rattle.checks.specs.declared.Checked.{Checked}
 use Rattle.rooms.specs.Lent.{Lent, lentAll}
 use Rattle.analysis.specs.Analyse.{tableOf}
-use Rattle.analysis.specs.Demand.{Typed}
 use Rattle.analysis.proofs.Supplied.{supplied}
-use Rattle.analysis.proofs.Outcomes.{room-is, table-says, refused-so, empty-so, goes-so}
+use Rattle.analysis.proofs.Outcomes.{crowded-so, table-says, refused-so, empty-so, goes-so}
 use Rattle.analysis.proofs.analyse.analyse.Statement.{statement}
 use Rattle.analysis.proofs.analyse.analyse.Tie as tie
 
@@ -21,24 +20,22 @@ rented s = let args = s .args in lentAll (args .centres) (args .values) (args .e
 
 -- the call's start, seen from where the checks have answered; and their answer is the table's
 abbrev start : tie.After-check → tie.Start
-start c = c .before .before .before .before .before .before .before .before .before .before .before .before .before .before .before .before .before .before .before .before .before .before .before .before .before .before .before .before .before .before
+start c = c .before .before .before .before .before .before .before .before .before .before .before .before .before .before .before .before .before .before .before .before .before .before .before .before .before .before .before .before .before .before .before
 
 told : (c : tie.After-check) (known : Checked) → c .check .result ≡ known → tableOf (asked (start c)) (rented (start c)) ≡ known
 told c known e =
     let room = c .before .before in
-    let segments = room .before in
+    let few = room .before in
+    let segments = few .before in
     let estimates = segments .before .before .before .before .before in
     let rows = estimates .before .before .before .before in
     table-says (asked (start c)) (rented (start c)) (c .before .is-hasty .ensures)
-    (room-is (asked (start c)) (rented (start c)) (rows .fewest .ensures) (estimates .estimate-room .ensures) (segments .segment-room .ensures) (room .room-for .ensures))
+    (crowded-so (asked (start c)) (rented (start c)) (rows .fewest .ensures) (estimates .estimate-room .ensures) (segments .segment-room .ensures) (few .rows-lack .ensures) (room .frame-room .ensures))
     (c .check .ensures) e
 
--- a note is a byte, and a setting an f32
+-- a note is a byte
 byte-note : (s : tie.Start) → s .args .head .«maximum_midi_note» < 256
 byte-note s = search needs
-
-typed : (s : tie.Start) → Typed (s .args .settings)
-typed s = record { window = search needs }
 
 fewest-requires : tie.Need-fewest-requires
 fewest-requires c κs = search needs
@@ -49,8 +46,11 @@ estimate-room-requires c κs = search needs
 segment-room-requires : tie.Need-segment-room-requires
 segment-room-requires c κs = search needs
 
-room-for-requires : tie.Need-room-for-requires
-room-for-requires c κs = search needs
+rows-lack-requires : tie.Need-rows-lack-requires
+rows-lack-requires c κs = search needs
+
+frame-room-requires : tie.Need-frame-room-requires
+frame-room-requires c κs = search needs
 
 is-hasty-requires : tie.Need-is-hasty-requires
 is-hasty-requires c κs = search needs
@@ -76,7 +76,7 @@ enum-known-positions c = search needs
 analyse-positions-requires : tie.Need-analyse-positions-requires
 analyse-positions-requires c κs =
     let answer = c .before .before .before .before .before .before .before .before .before .before .before .before .before .before in
-    supplied (asked (start answer)) (rented (start answer)) _ (byte-note (start answer)) (typed (start answer)) (told answer _ (c .before .before .before .before .before .before .before .before .before .before .before .before .positions .given .1))
+    supplied (asked (start answer)) (rented (start answer)) _ (byte-note (start answer)) (told answer _ (c .before .before .before .before .before .before .before .before .before .before .before .before .positions .given .1))
 
 same-length : tie.Need-same-length
 same-length c = search needs
@@ -176,7 +176,8 @@ analyse-spec =
     fewest-requires
     estimate-room-requires
     segment-room-requires
-    room-for-requires
+    rows-lack-requires
+    frame-room-requires
     is-hasty-requires
     check-requires
     enum-known-number

@@ -1,6 +1,6 @@
 -- What the calls ensure, put together.
 use borrow.Author.Needs.{needs}
-use Rattle.reports.specs.Report.{trackOf}
+use Rattle.reports.specs.inside.Rows.{trackOf}
 use Rattle.reports.proofs.report.track_of.Statement.{statement}
 use Rattle.reports.proofs.report.track_of.Tie as tie
 

@@ -2,7 +2,7 @@
 use borrow.Author.Needs.{needs}
 use Rattle.timeline.specs.Estimates.{estimateRows, estimatesIn}
 use Rattle.timeline.specs.Segments.{segmentRows}
-use Rattle.segments.specs.Fill.{cutOf, filledOf}
+use Rattle.segments.specs.inside.Fill.{cutOf, filledOf}
 use Rattle.segments.proofs.Fills.{cut-room, cut-numbered, settled-same}
 use Rattle.segments.proofs.fill.fill_segments.Statement.{statement}
 use Rattle.segments.proofs.fill.fill_segments.Tie as tie

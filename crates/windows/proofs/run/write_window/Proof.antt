@@ -11,7 +11,8 @@ use Rattle.laws.specs.Convert.{half}
 use Rattle.gathering.specs.Gather.{Heard, heard, gatheredOf}
 use Rattle.timeline.specs.Estimates.{EstimateRows, putEstimate}
 use Rattle.windows.specs.Estimates.{estimateOf}
-use Rattle.windows.specs.Run.{gatheredFrom, estimateFrom, silent, Written, wrote, windowWritten}
+use Rattle.windows.specs.Run.{gatheredFrom, estimateFrom, silent}
+use Rattle.windows.specs.inside.Rows.{Written, wrote, windowWritten}
 use Rattle.windows.specs.declared.span.Span.{Span}
 use Rattle.gathering.specs.declared.gather.Gathered.{Gathered}
 use Rattle.timeline.specs.declared.estimate.Estimate.{Estimate}

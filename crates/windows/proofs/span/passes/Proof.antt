@@ -6,7 +6,8 @@ use borrow.Author.Needs.{needs}
 use lib.Ieee.{ofBits}
 use Rattle.laws.proofs.First.{first-start, first-again, first-out, first-end}
 use Rattle.laws.specs.First.{first}
-use Rattle.windows.specs.Span.{startOf, endsAt, budgetFor, longestTrack, windowsWithin}
+use Rattle.windows.specs.Span.{startOf, endsAt, budgetFor, windowsWithin}
+use Rattle.calls.specs.Call.{longestTrack}
 use Rattle.windows.proofs.Starts.{start-first, start-next, ends-here}
 use Rattle.windows.proofs.span.passes.Statement.{statement}
 use Rattle.windows.proofs.span.passes.Tie as tie

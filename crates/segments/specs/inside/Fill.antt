@@ -1,4 +1,4 @@
--- Segments from estimates to lent rows: what is answered, what is left, and what that needs. Definitions only.
+-- Segments from estimates to lent rows, as the code has them: by a track's numbers. No promise names it. Definitions only.
 use mathlib.Core.List.{List}
 use Rattle.timeline.specs.declared.estimate.Estimate.{Estimate}
 use Rattle.timeline.specs.Segments.{SegmentRows, Filled}
