@@ -5,7 +5,7 @@ use Prim.Native.Nat.{ℕ, _+_, _*_, _<_, _≤_}
 use native.Mathlib.Omega.{arith}
 use lib.Ieee.{Float}
 use Rattle.laws.specs.Front.{list}
-use Rattle.constant_q.specs.Lanes.{FourLie, lanePower, fourDelays}
+use Rattle.constant_q.specs.inside.Lanes.{FourLie, lanePower, fourDelays}
 use Rattle.constant_q.specs.declared.lanes.Lane.{Lane}
 use Rattle.constant_q.specs.declared.lanes.Lanes.{Lanes}
 use Rattle.constant_q.specs.declared.lanes.Powers.{Powers}

@@ -9,9 +9,10 @@ use lib.Ieee.{Float}
 use lib.ListN.{length, getD, set}
 use Rattle.laws.specs.Front.{list}
 use Rattle.laws.proofs.Front.{length-list, getD-list, getD-front, filled-start, filled-more}
+use Rattle.calls.specs.Call.{Sheet}
 use Rattle.constant_q.specs.ConstantQ.{constantQOf}
-use Rattle.blocks.specs.Block.{centreAt, allWhole, Inside, chromasOf}
-use Rattle.blocks.specs.Stock.{middleAt, constantAt, Centred, Tuned, Stock, FilledFrom, Supplied}
+use Rattle.blocks.specs.Block.{laterCentre, allWhole, Inside, chromasOf}
+use Rattle.blocks.specs.Stock.{middleAt, constantAt, Centred, Tuned, Stock, FilledFrom, HandedOut}
 use Rattle.blocks.specs.declared.stock.Held.{Held}
 
 module _ (chroma : ℕ → List Float) (k : ℕ) where
@@ -46,28 +47,28 @@ module _ (chroma : ℕ → List Float) (k : ℕ) where
         some = omega arith;
       }
 
-  pub from-held : {held : Held} {block : List (List Float)} → Stock chroma held block → held .first ≤ k → k - held .first < held .count → Supplied chroma k (record { held = held; chroma = getD block (k - held .first) [] }) block
+  pub from-held : {held : Held} {block : List (List Float)} → Stock chroma held block → held .first ≤ k → k - held .first < held .count → HandedOut chroma k (record { held = held; chroma = getD block (k - held .first) [] }) block
   from-held {held} a begun within =
       let back : held .first + (k - held .first) ≡ k = omega arith in
       record { told = a .entries (k - held .first) within ∙ ap chroma back; stock = a; begun = begun }
 
-  pub from-filled : {held : Held} {block : List (List Float)} → FilledFrom chroma k held block → Supplied chroma k (record { held = held; chroma = getD block 0 [] }) block
+  pub from-filled : {held : Held} {block : List (List Float)} → FilledFrom chroma k held block → HandedOut chroma k (record { held = held; chroma = getD block 0 [] }) block
   from-filled {held} f = let e : held .first + 0 ≡ k = omega (arith, f .first) in record { told = f .stock .entries 0 (f .some) ∙ ap chroma e; stock = f .stock; begun = omega (arith, f .first) }
 
-module _ (lowest : ℕ) (lengths : List ℕ) (coefficients windows samples : List Float) (half hop k : ℕ) where
-  same-centre : (j : ℕ) → centreAt (middleAt half hop k) hop j ≡ middleAt half hop (k + j)
+module _ (samples : List Float) (half hop k : ℕ) where
+  same-centre : (j : ℕ) → laterCentre (middleAt half hop k) hop j ≡ middleAt half hop (k + j)
   same-centre j = let spread = add-mul k j hop in omega arith
 
-  pub block-held : {block : List (List Float)} → block ≡ chromasOf lowest lengths coefficients windows samples (middleAt half hop k) hop → FilledFrom (constantAt lowest lengths coefficients windows samples half hop) k (record { first = k; count = 8 }) block
+  pub block-held : (s : Sheet) {block : List (List Float)} → block ≡ chromasOf s samples (middleAt half hop k) hop → FilledFrom (constantAt s samples half hop) k (record { first = k; count = 8 }) block
   unfolding chromasOf
-  block-held e =
-      eight-held (constantAt lowest lengths coefficients windows samples half hop) k _ e
-      (λ (j : ℕ). ap (constantQOf lowest lengths coefficients windows samples) (same-centre j))
+  block-held s e =
+      eight-held (constantAt s samples half hop) k _ e
+      (λ (j : ℕ). ap (constantQOf s samples) (same-centre j))
 
   -- the last of eight positions too has its centre on the track
   pub last-near : {positions : ℕ} → Centred (length samples) half hop positions → k + 7 < positions → middleAt half hop k + 7 * hop ≤ length samples
   last-near centred l = let at = centred .on (k + 7) l in let spread = add-mul k 7 hop in omega arith
 
-  pub inside : {positions : ℕ} → Centred (length samples) half hop positions → k + 7 < positions → Tuned lengths coefficients (length windows) → allWhole (length samples) (middleAt half hop k) hop lengths ≡ true
-      → Inside (length samples) (middleAt half hop k) hop lengths coefficients (length windows)
+  pub inside : {positions end : ℕ} {lengths : List ℕ} {coefficients : List Float} → Centred (length samples) half hop positions → k + 7 < positions → Tuned lengths coefficients end → allWhole (length samples) (middleAt half hop k) hop lengths ≡ true
+      → Inside (length samples) (middleAt half hop k) hop lengths coefficients end
   inside centred l tuned whole = let alike = tuned .alike in record { near = last-near centred l; tuned = omega arith; few = tuned .few; joined = tuned .joined; whole = whole }

@@ -1,4 +1,4 @@
--- The constant-Q chromas of eight frame positions, a hop apart, each by its own definition. Definitions only.
+-- Only for the code's own steps: no promise names it. The constant-Q chromas of eight frame positions, a hop apart, each by its own definition. Definitions only.
 use mathlib.Core.Path.{_≡_}
 use Prim.Native.Nat.{ℕ, _+_, _-_, _*_, _/_, _≤_}
 use mathlib.Core.Bool.{Bool, true, _&&_}
@@ -8,13 +8,14 @@ use lib.ListN.{length, getD}
 use lib.Ieee.{Float, nan}
 use Rattle.laws.specs.Front.{list}
 use Rattle.laws.specs.Every.{everyEntry}
+use Rattle.calls.specs.Call.{Sheet}
 use Rattle.sheets.specs.Sheet.{joinedLength}
 use Rattle.filters.specs.Classes.{noSums, classAdded}
 use Rattle.constant_q.specs.ConstantQ.{constantQOf}
 
 -- the centre of position j, counted from the one with this centre
-abbrev pub centreAt : ℕ → ℕ → ℕ → ℕ
-centreAt centre hop j = centre + j * hop
+abbrev pub laterCentre : ℕ → ℕ → ℕ → ℕ
+laterCentre centre hop j = centre + j * hop
 
 -- a window of this size lies whole on the track at eight positions: at the first it begins there, and at the last there is room for it
 unfoldable pub wholeAt : ℕ → ℕ → ℕ → ℕ → Bool
@@ -41,5 +42,5 @@ unfoldable pub rowAdded : ℕ → ℕ → List Float → List (List Float) → L
 rowAdded lowest k powers block = list (λ (j : ℕ). classAdded lowest k (getD powers j nan) (getD block j [])) 8
 
 -- the chromas of eight positions
-unfoldable pub chromasOf : ℕ → List ℕ → List Float → List Float → List Float → ℕ → ℕ → List (List Float)
-chromasOf lowest lengths coefficients windows samples centre hop = list (λ (j : ℕ). constantQOf lowest lengths coefficients windows samples (centreAt centre hop j)) 8
+unfoldable pub chromasOf : Sheet → List Float → ℕ → ℕ → List (List Float)
+chromasOf s samples centre hop = list (λ (j : ℕ). constantQOf s samples (laterCentre centre hop j)) 8

@@ -1,10 +1,11 @@
--- One row at eight frame positions, a hop apart: each by itself, as the definitions of constant-Q have it. Definitions only.
+-- Only for the code's own steps: no promise names it. One row at eight frame positions, a hop apart: each by itself, as the definitions of constant-Q have it. Definitions only.
 use Prim.Native.Nat.{ℕ, _+_, _*_, _<_, _≤_}
 use mathlib.Core.List.{List}
 use lib.Ieee.{Float}
 use Rattle.laws.specs.Front.{list}
-use Rattle.filters.specs.Resonator.{atRest}
-use Rattle.constant_q.specs.Lanes.{lastPower, perCount, lanePower, fourDelays}
+use Rattle.filters.specs.Resonator.{atRest, powerOf}
+use Rattle.constant_q.specs.ConstantQ.{perCount}
+use Rattle.constant_q.specs.inside.Lanes.{lanePower, fourDelays}
 use Rattle.constant_q.specs.declared.lanes.Lane.{Lane}
 use Rattle.constant_q.specs.declared.lanes.Lanes.{Lanes}
 use Rattle.constant_q.specs.declared.lanes.Delays.{Delays}
@@ -37,10 +38,10 @@ eightDelays samples windows early late n = record { early = fourDelays samples w
 unfoldable pub powersLeft : Lanes → Delays → Powers
 powersLeft lanes d =
     record {
-      a = perCount (lanes .a .count) (lastPower (lanes .a .coefficient) (d .a));
-      b = perCount (lanes .b .count) (lastPower (lanes .b .coefficient) (d .b));
-      c = perCount (lanes .c .count) (lastPower (lanes .c .coefficient) (d .c));
-      d = perCount (lanes .d .count) (lastPower (lanes .d .coefficient) (d .d));
+      a = perCount (lanes .a .count) (powerOf (lanes .a .coefficient) (d .a));
+      b = perCount (lanes .b .count) (powerOf (lanes .b .coefficient) (d .b));
+      c = perCount (lanes .c .count) (powerOf (lanes .c .coefficient) (d .c));
+      d = perCount (lanes .d .count) (powerOf (lanes .d .coefficient) (d .d));
     }
 
 -- the power of the row at each of eight positions

@@ -1,9 +1,10 @@
--- Constant-Q chromas that are computed ahead, a block of positions at a time. Definitions only.
+-- Only for the code's own steps: no promise names it. Constant-Q chromas that are computed ahead, a block of positions at a time. Definitions only.
 use mathlib.Core.Path.{_≡_}
 use Prim.Native.Nat.{ℕ, _+_, _*_, _<_, _≤_}
 use mathlib.Core.List.{List, []}
 use lib.ListN.{length, getD}
 use lib.Ieee.{Float}
+use Rattle.calls.specs.Call.{Sheet}
 use Rattle.sheets.specs.Sheet.{joinedLength}
 use Rattle.constant_q.specs.ConstantQ.{constantQOf}
 use Rattle.blocks.specs.declared.stock.Held.{Held}
@@ -14,8 +15,8 @@ abbrev pub middleAt : ℕ → ℕ → ℕ → ℕ
 middleAt half hop k = k * hop + half
 
 -- the chroma of position k
-abbrev pub constantAt : ℕ → List ℕ → List Float → List Float → List Float → ℕ → ℕ → ℕ → List Float
-constantAt lowest lengths coefficients windows samples half hop k = constantQOf lowest lengths coefficients windows samples (middleAt half hop k)
+abbrev pub constantAt : Sheet → List Float → ℕ → ℕ → ℕ → List Float
+constantAt s samples half hop k = constantQOf s samples (middleAt half hop k)
 
 -- every position's centre lies on a track of so many samples
 pub record Centred (samples half hop positions : ℕ) : Type 0 where
@@ -40,7 +41,7 @@ pub record FilledFrom (chroma : ℕ → List Float) (k : ℕ) (held : Held) (blo
   pub some : 0 < held .count
 
 -- the chroma of position k was handed out of the block, which still holds what it says
-pub record Supplied (chroma : ℕ → List Float) (k : ℕ) (h : Handed) (block : List (List Float)) : Type 0 where
+pub record HandedOut (chroma : ℕ → List Float) (k : ℕ) (h : Handed) (block : List (List Float)) : Type 0 where
   pub told : h .chroma ≡ chroma k
   pub stock : Stock chroma (h .held) block
   pub begun : h .held .first ≤ k

@@ -2,6 +2,7 @@
 ghost use mathlib.Core.Path.{_≡_};
 ghost use Prim.Native.Nat.{_+_, _*_, _<_, _≤_};
 ghost use lib.ListN.{length};
+ghost use Rattle.constant_q.specs.inside.Powers.{constantQRows};
 ghost use Rattle.blocks.specs.Block.{wholeAt, allWhole, Inside, emptyBlock, rowAdded, chromasOf};
 use crate::eight::eight_powers;
 use constant_q::powers::place;
@@ -71,7 +72,7 @@ pub fn write_chromas(
     block: &mut [[f32; 12]],
 )
     requires { ⌜ Inside (length (now samples)) centre hop (now lengths) (now coefficients) (length (now windows)) × (length (now block) ≡ 8) ⌝ }
-    ensures { λ _. ⌜ now (block .exit) ≡ chromasOf lowest (now (lengths .entry)) (now (coefficients .entry)) (now (windows .entry)) (now (samples .entry)) centre hop ⌝ }
+    ensures { λ _. ⌜ now (block .exit) ≡ chromasOf (constantQRows lowest (now (lengths .entry)) (now (coefficients .entry)) (now (windows .entry))) (now (samples .entry)) centre hop ⌝ }
 {
     clear(block);
     let end = windows.len();

@@ -2,7 +2,8 @@
 ghost use mathlib.Core.Path.{_≡_};
 ghost use Prim.Native.Nat.{_<_, _≤_};
 ghost use lib.ListN.{length};
-ghost use Rattle.blocks.specs.Stock.{constantAt, Centred, Tuned, Stock, FilledFrom, Supplied};
+ghost use Rattle.constant_q.specs.inside.Powers.{constantQRows};
+ghost use Rattle.blocks.specs.Stock.{constantAt, Centred, Tuned, Stock, FilledFrom, HandedOut};
 use crate::block::are_whole;
 use crate::block::write_chromas;
 use constant_q::chroma::constant_q_chroma;
@@ -33,7 +34,7 @@ fn refill(
     block: &mut [[f32; 12]],
 ) -> Held
     requires { ⌜ (k < positions) × Centred (length (now samples)) half hop positions × Tuned (now lengths) (now coefficients) (length (now windows)) × (length (now block) ≡ 8) ⌝ }
-    ensures { λ r. ⌜ FilledFrom (constantAt lowest (now (lengths .entry)) (now (coefficients .entry)) (now (windows .entry)) (now (samples .entry)) half hop) k r (now (block .exit)) ⌝ }
+    ensures { λ r. ⌜ FilledFrom (constantAt (constantQRows lowest (now (lengths .entry)) (now (coefficients .entry)) (now (windows .entry))) (now (samples .entry)) half hop) k r (now (block .exit)) ⌝ }
 {
     let centre = k * hop + half;
     if positions - k >= 8 {
@@ -70,8 +71,8 @@ pub fn supply(
     held: Held,
     block: &mut [[f32; 12]],
 ) -> Handed
-    requires { ⌜ (k < positions) × Centred (length (now samples)) half hop positions × Tuned (now lengths) (now coefficients) (length (now windows)) × Stock (constantAt lowest (now lengths) (now coefficients) (now windows) (now samples) half hop) held (now block) × (held .first ≤ k) ⌝ }
-    ensures { λ r. ⌜ Supplied (constantAt lowest (now (lengths .entry)) (now (coefficients .entry)) (now (windows .entry)) (now (samples .entry)) half hop) k r (now (block .exit)) ⌝ }
+    requires { ⌜ (k < positions) × Centred (length (now samples)) half hop positions × Tuned (now lengths) (now coefficients) (length (now windows)) × Stock (constantAt (constantQRows lowest (now lengths) (now coefficients) (now windows)) (now samples) half hop) held (now block) × (held .first ≤ k) ⌝ }
+    ensures { λ r. ⌜ HandedOut (constantAt (constantQRows lowest (now (lengths .entry)) (now (coefficients .entry)) (now (windows .entry))) (now (samples .entry)) half hop) k r (now (block .exit)) ⌝ }
 {
     let at = k - held.first;
     if at < held.count {

@@ -1,3 +1,3 @@
 pub mod Spans
-mod Squares
 pub mod Resonators
+pub mod Rows

@@ -5,7 +5,7 @@ use Prim.Native.Nat.{ℕ, _+_}
 use lib.Ieee.{Float}
 use Rattle.laws.proofs.Turns.{turns-last}
 use Rattle.filters.specs.Resonator.{steppedOf, atRest, resonated}
-use Rattle.constant_q.specs.Lanes.{laneValue, laneDelay, steppedFour, fourDelays}
+use Rattle.constant_q.specs.inside.Lanes.{laneValue, laneDelay, steppedFour, fourDelays}
 use Rattle.filters.specs.declared.resonator.Delay.{Delay}
 use Rattle.constant_q.specs.declared.lanes.Lane.{Lane}
 use Rattle.constant_q.specs.declared.lanes.Lanes.{Lanes}

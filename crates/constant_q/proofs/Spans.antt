@@ -9,24 +9,24 @@ use native.Mathlib.Numerals.{add-one}
 use lib.ListN.{length, getD}
 use lib.Ieee.{Float}
 use Rattle.sheets.specs.Sheet.{joinedLength}
-use Rattle.constant_q.specs.Span.{startOf, countOf, spanOf}
-use Rattle.constant_q.specs.Lanes.{Lies, FourLie}
-use Rattle.constant_q.specs.Powers.{laneAt, Readable, lanesFrom}
+use Rattle.constant_q.specs.ConstantQ.{coveredFrom, coveredCount}
+use Rattle.constant_q.specs.inside.Lanes.{Lies, FourLie}
+use Rattle.constant_q.specs.inside.Powers.{coveredSpan, laneAt, Readable, lanesFrom}
 
 cut : (start size samples : ℕ) → start ≤ samples → min size (samples - start) ≡ min (start + size) samples - start
 cut start size samples h = omega arith
 
-pub span-is : (size centre samples : ℕ) {start count : ℕ} → centre ≤ samples → start ≡ centre - size / 2 → count ≡ min size (samples - start) → record { start = start; count = count } ≡ spanOf size centre samples
+pub span-is : (size centre samples : ℕ) {start count : ℕ} → centre ≤ samples → start ≡ centre - size / 2 → count ≡ min size (samples - start) → record { start = start; count = count } ≡ coveredSpan size centre samples
 span-is size centre samples {start} {count} h s e =
     let l : start ≤ samples = omega arith in
     let same : count ≡ min (start + size) samples - start = e ∙ cut start size samples l in
     rw (same, s)
 
 -- what is covered lies on the track, and within the window
-pub covered : (size centre samples : ℕ) → centre ≤ samples → startOf size centre + countOf size centre samples ≤ samples
+pub covered : (size centre samples : ℕ) → centre ≤ samples → coveredFrom size centre + coveredCount size centre samples ≤ samples
 covered size centre samples h = omega arith
 
-pub within-window : (size centre samples : ℕ) → countOf size centre samples ≤ size
+pub within-window : (size centre samples : ℕ) → coveredCount size centre samples ≤ size
 within-window size centre samples = omega arith
 
 -- a row's window ends no later than all windows do

@@ -1,4 +1,2 @@
-pub mod Span
-pub mod Lanes
-pub mod Powers
 pub mod ConstantQ
+pub mod inside

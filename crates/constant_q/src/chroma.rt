@@ -3,7 +3,8 @@ ghost use mathlib.Core.Path.{_≡_};
 ghost use Prim.Native.Nat.{_≤_};
 ghost use lib.ListN.{length};
 ghost use Rattle.sheets.specs.Sheet.{joinedLength};
-ghost use Rattle.constant_q.specs.ConstantQ.{powersByClass, constantQOf};
+ghost use Rattle.constant_q.specs.ConstantQ.{constantQOf};
+ghost use Rattle.constant_q.specs.inside.Powers.{constantQRows, powersByClass};
 use crate::powers::write_powers;
 use crate::span::half_is_left;
 use filters::classes::class_at;
@@ -42,7 +43,7 @@ pub fn constant_q_chroma(
     windows: &[f32],
 ) -> [f32; 12]
     requires { ⌜ (centre ≤ length (now samples)) × (length (now lengths) ≡ length (now coefficients)) × (length (now lengths) ≤ 256) × (joinedLength (now lengths) (length (now lengths)) ≡ length (now windows)) ⌝ }
-    ensures { λ r. ⌜ r ≡ constantQOf lowest (now (lengths .entry)) (now (coefficients .entry)) (now (windows .entry)) (now (samples .entry)) centre ⌝ }
+    ensures { λ r. ⌜ r ≡ constantQOf (constantQRows lowest (now (lengths .entry)) (now (coefficients .entry)) (now (windows .entry))) (now (samples .entry)) centre ⌝ }
 {
     let rows = lengths.len();
     let mut room = [0.0; 256];

@@ -3,8 +3,9 @@
 ghost use mathlib.Core.Path.{_≡_};
 ghost use Prim.Native.Nat.{_<_, _≤_};
 ghost use lib.ListN.{length};
-ghost use Rattle.filters.specs.Resonator.{steppedOf};
-ghost use Rattle.constant_q.specs.Lanes.{Lies, FourLie, laneValue, laneDelay, perCount, lastPower, lanePower, steppedFour, fewestOf, fourDelays, fourPowers};
+ghost use Rattle.filters.specs.Resonator.{steppedOf, powerOf};
+ghost use Rattle.constant_q.specs.ConstantQ.{perCount};
+ghost use Rattle.constant_q.specs.inside.Lanes.{Lies, FourLie, laneValue, laneDelay, lanePower, steppedFour, fewestOf, fourDelays, fourPowers};
 use filters::resonator::Delay;
 use filters::resonator::power;
 use filters::resonator::step;
@@ -70,7 +71,7 @@ fn run_lane(samples: &[f32], windows: &[f32], lane: Lane, from: usize, delay: De
 // What a resonator's delayed values make of its lane: power over the square of the count.
 pub fn power_per_count(lane: Lane, delay: Delay) -> f32
     requires { ⌜ lane .count < 0x1_0000_0000 ⌝ }
-    ensures { λ r. ⌜ r ≡ perCount (lane .count) (lastPower (lane .coefficient) delay) ⌝ }
+    ensures { λ r. ⌜ r ≡ perCount (lane .count) (powerOf (lane .coefficient) delay) ⌝ }
 {
     let n = std::num::nearest_u32_to_f32(lane.count as u32);
     larger(power(delay, lane.coefficient) / (n * n), 0.0)

@@ -1,7 +1,8 @@
 // The part of a track that a window around a centre covers.
 ghost use mathlib.Core.Path.{_≡_};
 ghost use Prim.Native.Nat.{_-_, _≤_};
-ghost use Rattle.constant_q.specs.Span.{spanOf, halfLeft};
+ghost use Rattle.constant_q.specs.ConstantQ.{halfLeft};
+ghost use Rattle.constant_q.specs.inside.Powers.{coveredSpan};
 use numbers::counts::fewer;
 
 // The part of the track that a window covers: its first sample, and how many there are.
@@ -20,7 +21,7 @@ fn less(a: usize, b: usize) -> usize
 // A window of this size around a centre, cut at the track's ends.
 pub fn span_around(size: usize, centre: usize, samples: usize) -> Span
     requires { ⌜ centre ≤ samples ⌝ }
-    ensures { λ r. ⌜ r ≡ spanOf size centre samples ⌝ }
+    ensures { λ r. ⌜ r ≡ coveredSpan size centre samples ⌝ }
 {
     let start = less(centre, size / 2);
     let count = fewer(size, samples - start);

@@ -1,1 +1,2 @@
 pub mod Rooms
+pub mod Squares

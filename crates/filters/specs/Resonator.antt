@@ -1,4 +1,5 @@
--- One resonator, written from the Rust's `apply_window` and `goertzel_power_prewindowed`. Definitions only.
+-- One resonator, written from the Rust's `apply_window` and `goertzel_power_prewindowed`. Definitions and the statement.
+use mathlib.Core.Path.{_≡_}
 use Prim.Native.Nat.{ℕ}
 use mathlib.Core.Bool.{cond}
 use lib.Ieee.{Float, binary32, add, sub, mul}
@@ -23,7 +24,13 @@ atRest = record { last = plusZero; before = plusZero }
 unfoldable pub resonated : Float → (ℕ → Float) → ℕ → Delay
 resonated coefficient values n = turns (λ (i : ℕ) (d : Delay). steppedOf coefficient (values i) d) n 0 atRest
 
--- before * before + last * last - coefficient * last * before
+-- the power that it ends with: before * before + last * last - coefficient * last * before
 unfoldable pub powerOf : Float → Delay → Float
 powerOf coefficient d =
     sub binary32 (add binary32 (mul binary32 (d .before) (d .before)) (mul binary32 (d .last) (d .last))) (mul binary32 (mul binary32 coefficient (d .last)) (d .before))
+
+-- the Rust's `CqtTable::chroma_at` adds the squares in the other order, which is the same: the theorem that proofs/Squares.antt proves
+abbrev pub EitherSquareFirst : Type 0
+EitherSquareFirst =
+    (coefficient : Float) (d : Delay) →
+    powerOf coefficient d ≡ sub binary32 (add binary32 (mul binary32 (d .last) (d .last)) (mul binary32 (d .before) (d .before))) (mul binary32 (mul binary32 coefficient (d .last)) (d .before))

@@ -19,7 +19,7 @@ use Rattle.laws.proofs.Nonneg.{positive→nonneg, nonneg→ordered, div-mono}
 use Rattle.laws.proofs.Parts.{whole-is, parts-clear, parts-mono}
 use Rattle.calls.specs.Call.{Call}
 use Rattle.checks.proofs.Passed.{passed}
-use Rattle.one_frame.specs.Frame.{loud, middleOf, centreOf, rowOf}
+use Rattle.one_frame.specs.Frame.{loud, middleOf, secondsAt, rowOf}
 use Rattle.frames.specs.Run.{energyAt, frameRow, loudBefore}
 use Rattle.frames.specs.Rising.{LoudCentresRise}
 use Rattle.one_frame.specs.declared.frame.Row.{Row}
@@ -30,10 +30,10 @@ module _ (c : Call) (rated : 0 < c .settings .rate) (slow : c .settings .rate �
   middle k = middleOf (c .settings) (k * c .settings .«hop_size»)
 
   abbrev centre : ℕ → Float
-  centre k = centreOf (c .settings) (k * c .settings .«hop_size»)
+  centre k = secondsAt (c .settings) (middle k)
 
   centre-is : (k : ℕ) → div binary64 (parts binary64 0 (middle k)) (parts binary64 0 (c .settings .rate)) ≡ centre k
-  unfolding centreOf
+  unfolding secondsAt
   centre-is k = ap₂ (div binary64) (sym (whole-is binary64 (middle k))) (sym (whole-is binary64 (c .settings .rate)))
 
   centre-upward : (j k : ℕ) → j ≤ k → T (le (centre j) (centre k))

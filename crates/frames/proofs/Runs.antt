@@ -15,12 +15,16 @@ use Rattle.laws.proofs.First.{first-start, first-again, first-out, first-end}
 use Rattle.laws.proofs.Column.{Column, column-start, column-more}
 use Rattle.calls.specs.Call.{Call}
 use Rattle.calls.specs.Rows.{Rows, rows}
-use Rattle.goertzel.specs.Goertzel.{goertzelAt}
-use Rattle.constant_q.specs.ConstantQ.{constantQAt}
-use Rattle.blocks.specs.Stock.{Centred, Tuned, Stock, Supplied}
+use Rattle.goertzel.specs.Goertzel.{goertzelOf}
+use Rattle.goertzel.specs.inside.Rows.{goertzelRows}
+use Rattle.goertzel.proofs.Alone.{goertzel-by-rows}
+use Rattle.constant_q.specs.ConstantQ.{constantQOf}
+use Rattle.constant_q.specs.inside.Powers.{constantQRows}
+use Rattle.constant_q.proofs.Rows.{constant-q-by-rows}
+use Rattle.blocks.specs.Stock.{Centred, Tuned, Stock, HandedOut}
 use Rattle.blocks.specs.declared.stock.Held.{Held}
 use Rattle.blocks.specs.declared.stock.Handed.{Handed}
-use Rattle.one_frame.specs.Frame.{loud, middleOf, chromaAt, rowFrom, rowOf, whole}
+use Rattle.one_frame.specs.Frame.{loud, middleOf, rowFrom, rowOf, whole}
 use Rattle.frames.specs.Run.{energyAt, frameRow, notFiniteAt, loudBefore, stopOf, holdingFrames}
 use Rattle.frames.specs.inside.Rows.{put, ran, runTo, runOf, Ready}
 use Rattle.one_frame.specs.declared.frame.Row.{Row}
@@ -73,15 +77,24 @@ after-loud : (c : Call) (k : ℕ) → loud (energyAt c k) ≡ true → loudBefor
 unfolding loudBefore
 after-loud c k l = rw (add-one, loudBefore, l)
 
+-- the two chromas as the code has them, each from its rows of the sheet alone: Goertzel's of the frame that starts at start, constant-Q's at position k
+abbrev goertzelBy : Call → ℕ → List Float
+goertzelBy c start = let s = c .sheet in goertzelOf (goertzelRows (s .head .«minimum_midi_note») (s .window) (s .goertzelCoefficients) (s .goertzelWeights)) (c .samples) start
+
+abbrev pub constantOf : Call → ℕ → List Float
+constantOf c k = let s = c .sheet in constantQOf (constantQRows (s .head .«minimum_midi_note») (s .constantQLengths) (s .constantQCoefficients) (s .constantQWindows)) (c .samples) (middleOf (c .settings) (k * c .settings .«hop_size»))
+
 module _ {c : Call} {positions : ℕ} {before now : Rows} {k n : ℕ} (reached : Reached c positions before now k n) where
   -- what the calls of a turn tell: whether the frame is loud, and whether its row is whole
   pub heard : {energy : Float} {flag answer : Bool} → energy ≡ energyAt c k → flag ≡ loud energy → flag ≡ answer → loud (energyAt c k) ≡ answer
   heard e f t = sym (ap loud e) ∙ sym f ∙ t
 
-  pub row-is : {energy : Float} {constant : List Float} {row : Row} → energy ≡ energyAt c k → constant ≡ constantQAt c (middleOf (c .settings) (k * c .settings .«hop_size»))
-      → row ≡ rowFrom (c .settings) (k * c .settings .«hop_size») energy (goertzelAt c (k * c .settings .«hop_size»)) constant → row ≡ frameRow c k
-  unfolding frameRow rowOf chromaAt
-  row-is e q r = rw (r, e, q) refl
+  pub row-is : {energy : Float} {constant : List Float} {row : Row} → energy ≡ energyAt c k → constant ≡ constantOf c k
+      → row ≡ rowFrom (c .settings) (k * c .settings .«hop_size») energy (goertzelBy c (k * c .settings .«hop_size»)) constant → row ≡ frameRow c k
+  unfolding frameRow rowOf
+  row-is e q r =
+      let start = k * c .settings .«hop_size» in
+      rw (r, e, q, goertzel-by-rows (c .sheet) (c .samples) start, constant-q-by-rows (c .sheet) (c .samples) (middleOf (c .settings) start)) refl
 
   pub judged : {row : Row} {flag answer : Bool} → row ≡ frameRow c k → flag ≡ whole row → flag ≡ answer → whole (frameRow c k) ≡ answer
   judged e f t = sym (ap whole e) ∙ sym f ∙ t
@@ -137,10 +150,6 @@ module _ {c : Call} {positions : ℕ} {before now : Rows} {k n : ℕ} (reached :
 
 -- ---- the constant-Q chromas computed ahead
 
--- constant-Q's chroma at position k
-abbrev pub constantOf : Call → ℕ → List Float
-constantOf c k = constantQAt c (middleOf (c .settings) (k * c .settings .«hop_size»))
-
 -- what the block holds, from a position at k or before it on
 pub record Stocked (c : Call) (held : Held) (block : List (List Float)) (k : ℕ) : Type 0 where
   pub stock : Stock (constantOf c) held block
@@ -152,7 +161,7 @@ stocked-start c long = record { stock = record { long = long; few = omega arith;
 pub stocked-quiet : {c : Call} {held : Held} {block : List (List Float)} {k : ℕ} → Stocked c held block k → Stocked c held block (k + 1)
 stocked-quiet {k = k} s = let b = s .begun in record { stock = s .stock; begun = omega arith }
 
-pub stocked-loud : {c : Call} {h : Handed} {block : List (List Float)} {k : ℕ} → Supplied (constantOf c) k h block → Stocked c (h .held) block (k + 1)
+pub stocked-loud : {c : Call} {h : Handed} {block : List (List Float)} {k : ℕ} → HandedOut (constantOf c) k h block → Stocked c (h .held) block (k + 1)
 stocked-loud s = let b = s .begun in record { stock = s .stock; begun = omega arith }
 
 -- every position's centre lies on the track, and the rows are as the supply takes them

@@ -7,12 +7,12 @@ use Rattle.laws.specs.Front.{front}
 use Rattle.laws.specs.First.{first}
 use Rattle.calls.specs.Call.{Call}
 use Rattle.calls.specs.Rows.{Rows, rows}
-use Rattle.one_frame.specs.Frame.{energyOf, loud, rowOf, whole}
+use Rattle.one_frame.specs.Frame.{frameEnergy, loud, rowOf, whole}
 use Rattle.one_frame.specs.declared.frame.Row.{Row}
 
 -- the energy at position k
 unfoldable pub energyAt : Call → ℕ → Float
-energyAt c k = energyOf (c .samples) (k * c .settings .«hop_size») (c .settings .«frame_size»)
+energyAt c k = frameEnergy (c .samples) (k * c .settings .«hop_size») (c .settings .«frame_size»)
 
 -- the row at position k
 unfoldable pub frameRow : Call → ℕ → Row

@@ -1,1 +1,2 @@
 mod Resonators
+pub mod Alone

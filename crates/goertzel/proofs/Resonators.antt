@@ -14,8 +14,8 @@ use Rattle.laws.specs.Values.{plusZero}
 use Rattle.laws.proofs.Front.{Filled, filled-more, filled-rest, filled-to, list-same, getD-front}
 use Rattle.filters.specs.Resonator.{steppedOf, atRest, resonated}
 use Rattle.filters.specs.declared.resonator.Delay.{Delay}
-use Rattle.goertzel.specs.Goertzel.{frameValue, rowAt, rowMagnitude, magnitudesOf}
-use Rattle.goertzel.specs.Rows.{Delays, delays, delayAt, steppedAt, steppedRows, runRows, lastMagnitude, lastMagnitudes}
+use Rattle.goertzel.specs.Goertzel.{frameValue, lastMagnitude, rowMagnitude, magnitudesOf}
+use Rattle.goertzel.specs.inside.Rows.{goertzelRows, Delays, delays, delayAt, steppedAt, steppedRows, runRows, lastMagnitudes}
 
 -- ---- one value more, a row a turn
 module _ (coefficients : List Float) (x : Float) (last₀ before₀ : List Float) where
@@ -68,14 +68,14 @@ at-rest size k h = rw (getD-replicate size k plusZero nan h)
 
 module _ (samples : List Float) (start : ℕ) (window coefficients weights : List Float) (size : ℕ) (h : length coefficients ≤ size) where
   abbrev ran : Delays
-  ran = runRows coefficients (frameValue samples start window) (length window) (resting size)
+  ran = runRows coefficients (frameValue window samples start) (length window) (resting size)
 
   -- the magnitudes of the rows side by side are those of each alone
-  magnitudes-alone : lastMagnitudes coefficients weights ran ≡ magnitudesOf samples start window coefficients weights
-  unfolding lastMagnitudes magnitudesOf lastMagnitude rowMagnitude
+  magnitudes-alone : lastMagnitudes coefficients ran ≡ magnitudesOf (goertzelRows 0 window coefficients weights) samples start
+  unfolding lastMagnitudes magnitudesOf rowMagnitude
   magnitudes-alone =
       list-same _ _ (length coefficients)
-      (λ (k : ℕ) (l : k < length coefficients). ap (lastMagnitude (rowAt coefficients weights k)) (run-alone coefficients (frameValue samples start window) k l (length window) (resting size) (at-rest size k (omega arith))))
+      (λ (k : ℕ) (l : k < length coefficients). ap (lastMagnitude (getD coefficients k nan)) (run-alone coefficients (frameValue window samples start) k l (length window) (resting size) (at-rest size k (omega arith))))
 
-  pub magnitudes-written : (room₀ : List Float) {room : List Float} {d : Delays} → d ≡ ran → room ≡ front (lastMagnitudes coefficients weights d) room₀ → room ≡ front (magnitudesOf samples start window coefficients weights) room₀
-  magnitudes-written room₀ e w = w ∙ ap (λ (l : List Float). front l room₀) (ap (lastMagnitudes coefficients weights) e ∙ magnitudes-alone)
+  pub magnitudes-written : (room₀ : List Float) {room : List Float} {d : Delays} → d ≡ ran → room ≡ front (lastMagnitudes coefficients d) room₀ → room ≡ front (magnitudesOf (goertzelRows 0 window coefficients weights) samples start) room₀
+  magnitudes-written room₀ e w = w ∙ ap (λ (l : List Float). front l room₀) (ap (lastMagnitudes coefficients) e ∙ magnitudes-alone)

@@ -9,27 +9,28 @@ use Rattle.laws.specs.Front.{list}
 use Rattle.laws.specs.Pick.{maximumNumber}
 use Rattle.laws.specs.Values.{plusZero}
 use Rattle.roots.specs.Root.{rootOf}
-use Rattle.calls.specs.Call.{Call}
+use Rattle.calls.specs.Call.{Sheet}
 use Rattle.filters.specs.Resonator.{windowedOf, resonated, powerOf}
 use Rattle.filters.specs.Classes.{addedByClass, weightsByClass, dividedByClass}
-use Rattle.filters.specs.declared.resonator.GoertzelRow.{GoertzelRow}
+use Rattle.filters.specs.declared.resonator.Delay.{Delay}
 
 -- value i of the frame that starts at start
-abbrev pub frameValue : List Float → ℕ → List Float → ℕ → Float
-frameValue samples start window i = windowedOf (getD samples (start + i) nan) (getD window i nan)
+abbrev pub frameValue : List Float → List Float → ℕ → ℕ → Float
+frameValue window samples start i = windowedOf (getD samples (start + i) nan) (getD window i nan)
 
--- the sheet's row for the lowest note plus k
-abbrev pub rowAt : List Float → List Float → ℕ → GoertzelRow
-rowAt coefficients weights k = record { coefficient = getD coefficients k nan; weight = getD weights k nan }
+-- the square root of the power that a resonator ends with; a power below 0 and a NaN count as 0
+unfoldable pub lastMagnitude : Float → Delay → Float
+lastMagnitude coefficient d = rootOf (maximumNumber (powerOf coefficient d) plusZero)
 
--- the square root of the power that a row's resonator ends with; a power below 0 and a NaN count as 0
-unfoldable pub rowMagnitude : List Float → ℕ → List Float → GoertzelRow → Float
-rowMagnitude samples start window row =
-    rootOf (maximumNumber (powerOf (row .coefficient) (resonated (row .coefficient) (frameValue samples start window) (length window))) plusZero)
+-- the magnitude of row k, from its resonator after the whole frame
+unfoldable pub rowMagnitude : Sheet → List Float → ℕ → ℕ → Float
+rowMagnitude s samples start k =
+    let coefficient = getD (s .goertzelCoefficients) k nan in
+    lastMagnitude coefficient (resonated coefficient (frameValue (s .window) samples start) (length (s .window)))
 
 -- of all rows
-unfoldable pub magnitudesOf : List Float → ℕ → List Float → List Float → List Float → List Float
-magnitudesOf samples start window coefficients weights = list (λ (k : ℕ). rowMagnitude samples start window (rowAt coefficients weights k)) (length coefficients)
+unfoldable pub magnitudesOf : Sheet → List Float → ℕ → List Float
+magnitudesOf s samples start = list (rowMagnitude s samples start) (length (s .goertzelCoefficients))
 
 -- the row of the note that lies so far above row k's, and at 255 at most
 abbrev pub harmonicRow : ℕ → ℕ → ℕ → ℕ
@@ -48,15 +49,11 @@ contributionOf magnitudes lowest k =
     harmonicAdded magnitudes lowest k 24 (ofBits binary32 0x3e80_0000) third
 
 -- each row's contribution times its weight, by class
-unfoldable pub contributionsByClass : ℕ → List Float → List Float → List Float → List Float
-contributionsByClass lowest magnitudes coefficients weights =
-    addedByClass lowest (λ (k : ℕ). mul binary32 (contributionOf magnitudes lowest k) (rowAt coefficients weights k .weight)) (length magnitudes)
+unfoldable pub contributionsByClass : ℕ → List Float → List Float → List Float
+contributionsByClass lowest magnitudes weights = addedByClass lowest (λ (k : ℕ). mul binary32 (contributionOf magnitudes lowest k) (getD weights k nan)) (length magnitudes)
 
 -- the chroma: each class's contributions over its weights
-unfoldable pub goertzelOf : ℕ → List Float → List Float → List Float → List Float → ℕ → List Float
-goertzelOf lowest window coefficients weights samples start =
-    dividedByClass (contributionsByClass lowest (magnitudesOf samples start window coefficients weights) coefficients weights) (weightsByClass lowest weights)
-
--- the same, of a call
-abbrev pub goertzelAt : Call → ℕ → List Float
-goertzelAt c start = let s = c .sheet in goertzelOf (s .head .«minimum_midi_note») (s .window) (s .goertzelCoefficients) (s .goertzelWeights) (c .samples) start
+unfoldable pub goertzelOf : Sheet → List Float → ℕ → List Float
+goertzelOf s samples start =
+    let lowest = s .head .«minimum_midi_note» in
+    dividedByClass (contributionsByClass lowest (magnitudesOf s samples start) (s .goertzelWeights)) (weightsByClass lowest (s .goertzelWeights))

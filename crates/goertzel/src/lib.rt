@@ -5,6 +5,7 @@ ghost use mathlib.Core.Path.{_≡_};
 ghost use Prim.Native.Nat.{_+_, _<_, _≤_};
 ghost use lib.ListN.{length};
 ghost use Rattle.goertzel.specs.Goertzel.{harmonicRow, harmonicAdded, contributionOf, contributionsByClass, goertzelOf};
+ghost use Rattle.goertzel.specs.inside.Rows.{goertzelRows};
 use crate::rows::row_at;
 use crate::rows::write_magnitudes;
 use filters::classes::class_at;
@@ -52,7 +53,7 @@ fn sum_contributions(
     weights: &[f32],
 ) -> [f32; 12]
     requires { ⌜ (length (now magnitudes) ≤ 256) × (length (now magnitudes) ≤ length (now coefficients)) × (length (now magnitudes) ≤ length (now weights)) ⌝ }
-    ensures { λ r. ⌜ r ≡ contributionsByClass lowest (now (magnitudes .entry)) (now (coefficients .entry)) (now (weights .entry)) ⌝ }
+    ensures { λ r. ⌜ r ≡ contributionsByClass lowest (now (magnitudes .entry)) (now (weights .entry)) ⌝ }
 {
     let mut sums = [0.0; 12];
     let mut k = 0;
@@ -75,7 +76,7 @@ pub fn goertzel_chroma(
     weights: &[f32],
 ) -> [f32; 12]
     requires { ⌜ (start + length (now window) ≤ length (now samples)) × (length (now coefficients) ≡ length (now weights)) × (length (now weights) ≤ 256) ⌝ }
-    ensures { λ r. ⌜ r ≡ goertzelOf lowest (now (window .entry)) (now (coefficients .entry)) (now (weights .entry)) (now (samples .entry)) start ⌝ }
+    ensures { λ r. ⌜ r ≡ goertzelOf (goertzelRows lowest (now (window .entry)) (now (coefficients .entry)) (now (weights .entry))) (now (samples .entry)) start ⌝ }
 {
     let rows = coefficients.len();
     let mut room = [0.0; 256];

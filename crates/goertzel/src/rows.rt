@@ -3,8 +3,8 @@ ghost use mathlib.Core.Path.{_≡_};
 ghost use Prim.Native.Nat.{_+_, _<_, _≤_};
 ghost use lib.ListN.{length};
 ghost use Rattle.laws.specs.Front.{front};
-ghost use Rattle.goertzel.specs.Goertzel.{frameValue, rowAt, magnitudesOf};
-ghost use Rattle.goertzel.specs.Rows.{lentDelays, steppedRows, runRows, lastMagnitude, lastMagnitudes};
+ghost use Rattle.goertzel.specs.Goertzel.{frameValue, lastMagnitude, magnitudesOf};
+ghost use Rattle.goertzel.specs.inside.Rows.{goertzelRows, rowAt, lentDelays, steppedRows, runRows, lastMagnitudes};
 use filters::resonator::Delay;
 use filters::resonator::GoertzelRow;
 use filters::resonator::power;
@@ -52,7 +52,7 @@ fn run_rows(
     before: &mut [f32],
 )
     requires { ⌜ (start + length (now window) ≤ length (now samples)) × (length (now coefficients) ≤ length (now last)) × (length (now coefficients) ≤ length (now before)) ⌝ }
-    ensures { λ _. ⌜ lentDelays (last .exit) (before .exit) ≡ runRows (now (coefficients .entry)) (frameValue (now (samples .entry)) start (now (window .entry))) (length (now (window .entry))) (lentDelays (last .entry) (before .entry)) ⌝ }
+    ensures { λ _. ⌜ lentDelays (last .exit) (before .exit) ≡ runRows (now (coefficients .entry)) (frameValue (now (window .entry)) (now (samples .entry)) start) (length (now (window .entry))) (lentDelays (last .entry) (before .entry)) ⌝ }
 {
     let mut i = 0;
     while i < window.len() {
@@ -64,7 +64,7 @@ fn run_rows(
 
 // The magnitude of a row's note, from what its resonator ends with.
 fn last_magnitude(row: GoertzelRow, delay: Delay) -> f32
-    ensures { λ r. ⌜ r ≡ lastMagnitude row delay ⌝ }
+    ensures { λ r. ⌜ r ≡ lastMagnitude (row .coefficient) delay ⌝ }
 {
     square_root(larger(power(delay, row.coefficient), 0.0))
 }
@@ -78,7 +78,7 @@ fn last_magnitudes(
     room: &mut [f32],
 )
     requires { ⌜ (length (now coefficients) ≤ length (now weights)) × (length (now coefficients) ≤ length (now last)) × (length (now coefficients) ≤ length (now before)) × (length (now coefficients) ≤ length (now room)) ⌝ }
-    ensures { λ _. ⌜ now (room .exit) ≡ front (lastMagnitudes (now (coefficients .entry)) (now (weights .entry)) (lentDelays (last .entry) (before .entry))) (now (room .entry)) ⌝ }
+    ensures { λ _. ⌜ now (room .exit) ≡ front (lastMagnitudes (now (coefficients .entry)) (lentDelays (last .entry) (before .entry))) (now (room .entry)) ⌝ }
 {
     let mut k = 0;
     while k < coefficients.len() {
@@ -102,7 +102,7 @@ pub fn write_magnitudes(
     room: &mut [f32],
 )
     requires { ⌜ (start + length (now window) ≤ length (now samples)) × (length (now coefficients) ≤ length (now weights)) × (length (now coefficients) ≤ length (now room)) × (length (now coefficients) ≤ 256) ⌝ }
-    ensures { λ _. ⌜ now (room .exit) ≡ front (magnitudesOf (now (samples .entry)) start (now (window .entry)) (now (coefficients .entry)) (now (weights .entry))) (now (room .entry)) ⌝ }
+    ensures { λ _. ⌜ now (room .exit) ≡ front (magnitudesOf (goertzelRows 0 (now (window .entry)) (now (coefficients .entry)) (now (weights .entry))) (now (samples .entry)) start) (now (room .entry)) ⌝ }
 {
     let mut last = [0.0; 256];
     let mut before = [0.0; 256];

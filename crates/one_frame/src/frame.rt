@@ -3,8 +3,9 @@ ghost use mathlib.Core.Path.{_≡_};
 ghost use Prim.Native.Nat.{_+_, _^_, _<_, _≤_};
 ghost use lib.ListN.{length};
 ghost use Rattle.goertzel.specs.Goertzel.{goertzelOf};
+ghost use Rattle.goertzel.specs.inside.Rows.{goertzelRows};
 ghost use Rattle.one_frame.specs.Blend.{blendOf};
-ghost use Rattle.one_frame.specs.Frame.{energyOf, loud, centreOf, rowFrom, whole};
+ghost use Rattle.one_frame.specs.Frame.{frameEnergy, loud, middleOf, secondsAt, rowFrom, whole};
 use crate::blend::blend;
 use calls::Settings;
 use goertzel::goertzel_chroma;
@@ -20,7 +21,7 @@ pub struct Row {
 // The mean of the squares of a frame's finite samples.
 pub fn frame_energy(samples: &[f32], start: usize, size: usize) -> f32
     requires { ⌜ (start + size ≤ length (now samples)) × (size ≤ 65536) ⌝ }
-    ensures { λ r. ⌜ r ≡ energyOf (now (samples .entry)) start size ⌝ }
+    ensures { λ r. ⌜ r ≡ frameEnergy (now (samples .entry)) start size ⌝ }
 {
     let mut sum: f32 = -0.0;
     let mut i = 0;
@@ -52,7 +53,7 @@ fn frame_chroma(
     constant: [f32; 12],
 ) -> [f32; 12]
     requires { ⌜ (start + length (now window) ≤ length (now samples)) × (length (now coefficients) ≡ length (now weights)) × (length (now weights) ≤ 256) ⌝ }
-    ensures { λ r. ⌜ r ≡ blendOf (goertzelOf lowest (now (window .entry)) (now (coefficients .entry)) (now (weights .entry)) (now (samples .entry)) start) constant ⌝ }
+    ensures { λ r. ⌜ r ≡ blendOf (goertzelOf (goertzelRows lowest (now (window .entry)) (now (coefficients .entry)) (now (weights .entry))) (now (samples .entry)) start) constant ⌝ }
 {
     let first = goertzel_chroma(lowest, samples, start, window, coefficients, weights);
     blend(&first, &constant)
@@ -61,7 +62,7 @@ fn frame_chroma(
 // The middle of a frame, in seconds.
 fn frame_centre(settings: Settings, start: usize) -> f64
     requires { ⌜ start + settings .«frame_size» < 2 ^ 64 ⌝ }
-    ensures { λ r. ⌜ r ≡ centreOf settings start ⌝ }
+    ensures { λ r. ⌜ r ≡ secondsAt settings (middleOf settings start) ⌝ }
 {
     let middle = start + settings.frame_size / 2;
     std::num::nearest_u64_to_f64(middle as u64) / std::num::nearest_u64_to_f64(settings.rate as u64)
@@ -80,7 +81,7 @@ pub fn frame_row(
     constant: [f32; 12],
 ) -> Row
     requires { ⌜ (start + settings .«frame_size» ≤ length (now samples)) × (length (now window) ≡ settings .«frame_size») × (length (now coefficients) ≡ length (now weights)) × (length (now weights) ≤ 256) ⌝ }
-    ensures { λ r. ⌜ r ≡ rowFrom settings start energy (goertzelOf lowest (now (window .entry)) (now (coefficients .entry)) (now (weights .entry)) (now (samples .entry)) start) constant ⌝ }
+    ensures { λ r. ⌜ r ≡ rowFrom settings start energy (goertzelOf (goertzelRows lowest (now (window .entry)) (now (coefficients .entry)) (now (weights .entry))) (now (samples .entry)) start) constant ⌝ }
 {
     let centre = frame_centre(settings, start);
     let values = frame_chroma(

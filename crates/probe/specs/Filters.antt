@@ -8,7 +8,9 @@ use lib.Ieee.{Float}
 use Rattle.sheets.specs.Sheet.{joinedLength}
 use Rattle.filters.specs.Classes.{noSums}
 use Rattle.goertzel.specs.Goertzel.{goertzelOf}
+use Rattle.goertzel.specs.inside.Rows.{goertzelRows}
 use Rattle.constant_q.specs.ConstantQ.{constantQOf}
+use Rattle.constant_q.specs.inside.Powers.{constantQRows}
 
 -- so many values from a start on are there
 abbrev pub reachesTo : ℕ → ℕ → ℕ → Bool
@@ -21,11 +23,11 @@ rowsFit rows others = eqb rows others && leb rows 256
 -- the Goertzel chroma of a frame on the track
 abbrev pub probedGoertzel : ℕ → List Float → List Float → List Float → List Float → ℕ → List Float
 probedGoertzel lowest window coefficients weights samples start =
-    cond (reachesTo start (length window) (length samples) && rowsFit (length coefficients) (length weights)) (goertzelOf lowest window coefficients weights samples start) noSums
+    cond (reachesTo start (length window) (length samples) && rowsFit (length coefficients) (length weights)) (goertzelOf (goertzelRows lowest window coefficients weights) samples start) noSums
 
 -- the constant-Q chroma around a centre on the track
 abbrev pub probedConstantQ : ℕ → List ℕ → List Float → List Float → List Float → ℕ → List Float
 probedConstantQ lowest lengths coefficients windows samples centre =
     cond (leb centre (length samples) && rowsFit (length lengths) (length coefficients))
-    (cond (eqb (joinedLength lengths (length lengths)) (length windows)) (constantQOf lowest lengths coefficients windows samples centre) noSums)
+    (cond (eqb (joinedLength lengths (length lengths)) (length windows)) (constantQOf (constantQRows lowest lengths coefficients windows) samples centre) noSums)
     noSums

@@ -7,13 +7,18 @@ use Prim.Native.Nat.{ℕ}
 use mathlib.Core.Path.{_≡_, refl, sym}
 use lib.ListN.{length}
 use lib.Ieee.{Float}
-use Rattle.goertzel.specs.Goertzel.{rowAt, rowMagnitude, magnitudesOf, goertzelOf}
+use Rattle.calls.specs.Call.{Sheet}
+use Rattle.goertzel.specs.Goertzel.{rowMagnitude, magnitudesOf, goertzelOf}
+use Rattle.goertzel.specs.inside.Rows.{goertzelRows}
 use lib.ListN.{take}
 use Rattle.filters.proofs.Rooms.{read-back, read-long}
 
--- the magnitude of row k
+-- the rows from note 0 on, as the magnitudes are told of them, and the magnitude of row k
+abbrev rows : tie.Start → Sheet
+rows s = let a = s .args in goertzelRows 0 (a .window .now) (a .coefficients .now) (a .weights .now)
+
 abbrev magnitude : tie.Start → ℕ → Float
-magnitude s k = let a = s .args in rowMagnitude (a .samples .now) (a .start) (a .window .now) (rowAt (a .coefficients .now) (a .weights .now) k)
+magnitude s = rowMagnitude (rows s) (s .args .samples .now) (s .args .start)
 
 -- the call's start, seen from where the room was written
 abbrev start : tie.After-write-magnitudes → tie.Start
@@ -23,7 +28,7 @@ long : (c : tie.After-write-magnitudes) → length (take (length (start c .args 
 unfolding magnitudesOf
 long c = read-long (magnitude (start c)) (length (start c .args .coefficients .now)) _ (c .write-magnitudes .ensures)
 
-back : (c : tie.After-write-magnitudes) → take (length (start c .args .coefficients .now)) (c .write-magnitudes .last .1 .1 .1 .1 .1 .0) ≡ magnitudesOf (start c .args .samples .now) (start c .args .start) (start c .args .window .now) (start c .args .coefficients .now) (start c .args .weights .now)
+back : (c : tie.After-write-magnitudes) → take (length (start c .args .coefficients .now)) (c .write-magnitudes .last .1 .1 .1 .1 .1 .0) ≡ magnitudesOf (rows (start c)) (start c .args .samples .now) (start c .args .start)
 unfolding magnitudesOf
 back c = read-back (magnitude (start c)) (length (start c .args .coefficients .now)) _ (c .write-magnitudes .ensures)
 
@@ -49,7 +54,7 @@ divide-by-weights-requires : tie.Need-divide-by-weights-requires
 divide-by-weights-requires c κs = search needs
 
 returns : tie.Need-returns
-unfolding goertzelOf
+unfolding goertzelOf magnitudesOf rowMagnitude
 returns c = let summed = c .before .before .before .before in rw (c .divide-by-weights .ensures, c .before .before .before .sum-weights .ensures, summed .sum-contributions .ensures, back (summed .before .before .before)) refl
 
 pub goertzel-chroma-spec : {M : Type 1} → statement M

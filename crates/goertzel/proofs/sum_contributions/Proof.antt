@@ -5,16 +5,16 @@ use Rattle.goertzel.proofs.sum_contributions.Tie as tie
 use native.Mathlib.Omega.{arith}
 use Prim.Native.Nat.{ℕ, _≤_, _-_}
 use mathlib.Core.Path.{_≡_, refl}
-use lib.ListN.{length}
-use lib.Ieee.{Float, binary32, ofBits, mul}
+use lib.ListN.{length, getD}
+use lib.Ieee.{Float, nan, binary32, ofBits, mul}
 use mathlib.Core.List.{List}
 use Rattle.laws.specs.Turns.{turns}
 use Rattle.laws.proofs.Turns.{turns-start, turns-again, turns-end}
 use Rattle.filters.specs.Classes.{classAdded, addedByClass}
-use Rattle.goertzel.specs.Goertzel.{rowAt, contributionOf, contributionsByClass}
+use Rattle.goertzel.specs.Goertzel.{contributionOf, contributionsByClass}
 
 abbrev Inv-loop : tie.InvT-loop
-Inv-loop lowest magnitudes coefficients weights sums₀ k₀ sums k = (k ≤ length magnitudes) × (turns (λ (j : ℕ) (s : List Float). classAdded lowest j (mul binary32 (contributionOf magnitudes lowest j) (rowAt coefficients weights j .weight)) s) (length magnitudes - k) k sums ≡ contributionsByClass lowest magnitudes coefficients weights)
+Inv-loop lowest magnitudes coefficients weights sums₀ k₀ sums k = (k ≤ length magnitudes) × (turns (λ (j : ℕ) (s : List Float). classAdded lowest j (mul binary32 (contributionOf magnitudes lowest j) (getD weights j nan)) s) (length magnitudes - k) k sums ≡ contributionsByClass lowest magnitudes weights)
 
 abbrev μ-loop : tie.MeasureT-loop
 μ-loop lowest magnitudes coefficients weights sums₀ k₀ sums k = length magnitudes - k

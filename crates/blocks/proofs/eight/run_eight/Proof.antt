@@ -5,7 +5,7 @@ use Prim.Native.Nat.{_≤_, _-_}
 use mathlib.Core.Path.{_≡_, refl, ap, _∙_}
 use Rattle.laws.specs.Turns.{turns}
 use Rattle.filters.specs.Resonator.{resonated}
-use Rattle.constant_q.specs.Lanes.{fourDelays}
+use Rattle.constant_q.specs.inside.Lanes.{fourDelays}
 use Rattle.constant_q.proofs.Resonators.{four-more}
 use Rattle.blocks.specs.Eight.{eightDelays}
 use Rattle.blocks.proofs.eight.run_eight.Statement.{statement}

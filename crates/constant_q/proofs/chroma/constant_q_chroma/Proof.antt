@@ -4,12 +4,12 @@ use Rattle.constant_q.proofs.chroma.constant_q_chroma.Statement.{statem
 use Rattle.constant_q.proofs.chroma.constant_q_chroma.Tie as tie
 use native.Mathlib.Omega.{arith}
 use Prim.Native.Nat.{ℕ}
-use mathlib.Core.Path.{_≡_, refl, sym}
+use mathlib.Core.Path.{_≡_, sym, _∙_}
 use lib.ListN.{length}
 use lib.Ieee.{Float}
-use Rattle.constant_q.specs.ConstantQ.{constantQOf}
-use Rattle.constant_q.specs.Powers.{powerAt, powersOf}
+use Rattle.constant_q.specs.inside.Powers.{constantQRows, powerAt, powersOf}
 use lib.ListN.{take}
+use Rattle.constant_q.proofs.Rows.{from-powers}
 use Rattle.filters.proofs.Rooms.{read-back, read-long}
 
 -- the power of row k
@@ -44,8 +44,7 @@ sum-powers-requires : tie.Need-sum-powers-requires
 sum-powers-requires c κs = let l = long (c .before .before) in (omega arith, omega arith, omega arith)
 
 returns : tie.Need-returns
-unfolding constantQOf
-returns c = rw (c .sum-powers .ensures, back (c .before .before .before)) refl
+returns c = let a = start (c .before .before .before) .args in c .sum-powers .ensures ∙ rw (back (c .before .before .before)) (from-powers (constantQRows (a .lowest) (a .lengths .now) (a .coefficients .now) (a .windows .now)) (a .samples .now) (a .centre))
 
 pub constant-q-chroma-spec : {M : Type 1} → statement M
 constant-q-chroma-spec =

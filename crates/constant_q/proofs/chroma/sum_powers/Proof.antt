@@ -10,11 +10,11 @@ use lib.Ieee.{ofBits}
 use Rattle.laws.specs.Turns.{turns}
 use Rattle.laws.proofs.Turns.{turns-start, turns-again, turns-end}
 use Rattle.filters.specs.Classes.{classAdded}
-use Rattle.constant_q.specs.ConstantQ.{powerTurn, powersByClass}
+use Rattle.constant_q.specs.inside.Powers.{listedTurn, powersByClass}
 use Rattle.laws.proofs.Table.{told}
 
 abbrev Inv-loop : tie.InvT-loop
-Inv-loop lowest samples centre lengths powers sums₀ k₀ sums k = (k ≤ length powers) × (turns (powerTurn lowest samples centre lengths powers) (length powers - k) k sums ≡ powersByClass lowest samples centre lengths powers)
+Inv-loop lowest samples centre lengths powers sums₀ k₀ sums k = (k ≤ length powers) × (turns (listedTurn lowest samples centre lengths powers) (length powers - k) k sums ≡ powersByClass lowest samples centre lengths powers)
 
 abbrev μ-loop : tie.MeasureT-loop
 μ-loop lowest samples centre lengths powers sums₀ k₀ sums k = length powers - k

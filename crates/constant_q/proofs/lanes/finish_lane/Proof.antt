@@ -3,7 +3,7 @@ use borrow.Author.Needs.{needs}
 use Rattle.constant_q.proofs.lanes.finish_lane.Statement.{statement}
 use Rattle.constant_q.proofs.lanes.finish_lane.Tie as tie
 use mathlib.Core.Path.{refl}
-use Rattle.constant_q.specs.Lanes.{lanePower}
+use Rattle.constant_q.specs.inside.Lanes.{lanePower}
 
 run-lane-requires : tie.Need-run-lane-requires
 run-lane-requires c κs = search needs

@@ -4,7 +4,7 @@ use Rattle.constant_q.proofs.lanes.four_powers.Statement.{statement}
 use Rattle.constant_q.proofs.lanes.four_powers.Tie as tie
 use native.Mathlib.Omega.{arith}
 use mathlib.Core.Path.{refl, ap}
-use Rattle.constant_q.specs.Lanes.{fourDelays, fourPowers}
+use Rattle.constant_q.specs.inside.Lanes.{fourDelays, fourPowers}
 use Rattle.constant_q.specs.declared.lanes.Delays.{Delays}
 
 fewest-requires : tie.Need-fewest-requires

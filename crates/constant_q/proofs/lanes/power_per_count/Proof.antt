@@ -4,8 +4,7 @@ use Rattle.constant_q.proofs.lanes.power_per_count.Statement.{statement
 use Rattle.constant_q.proofs.lanes.power_per_count.Tie as tie
 use mathlib.Core.Path.{refl}
 use lib.Ieee.{ofBits}
-use Rattle.constant_q.specs.Lanes.{perCount}
-use Rattle.constant_q.proofs.Squares.{same-power}
+use Rattle.constant_q.specs.ConstantQ.{perCount}
 
 cast-nearest-u32-to-f32 : tie.Need-cast-nearest-u32-to-f32
 cast-nearest-u32-to-f32 c = search needs
@@ -21,7 +20,7 @@ larger-requires c κs = search needs
 
 returns : tie.Need-returns
 unfolding perCount ofBits
-returns c = rw (c .larger .ensures, c .before .power .ensures, c .before .before .nearest-u32-to-f32 .ensures, same-power) refl
+returns c = rw (c .larger .ensures, c .before .power .ensures, c .before .before .nearest-u32-to-f32 .ensures) refl
 
 pub power-per-count-spec : {M : Type 1} → statement M
 power-per-count-spec =

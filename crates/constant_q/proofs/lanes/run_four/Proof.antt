@@ -8,7 +8,7 @@ use mathlib.Core.Path.{_≡_, refl, ap, _∙_}
 use lib.Ieee.{ofBits}
 use Rattle.laws.specs.Turns.{turns}
 use Rattle.filters.specs.Resonator.{resonated}
-use Rattle.constant_q.specs.Lanes.{fourDelays}
+use Rattle.constant_q.specs.inside.Lanes.{fourDelays}
 use Rattle.constant_q.proofs.Resonators.{four-more}
 
 abbrev Inv-loop : tie.InvT-loop

@@ -5,7 +5,7 @@ use Rattle.constant_q.proofs.lanes.run_lane.Tie as tie
 use native.Mathlib.Omega.{arith}
 use Prim.Native.Nat.{_≤_, _-_}
 use mathlib.Core.Path.{_≡_, ap, _∙_}
-use Rattle.constant_q.specs.Lanes.{laneDelay}
+use Rattle.constant_q.specs.inside.Lanes.{laneDelay}
 use Rattle.constant_q.proofs.Resonators.{lane-more}
 
 abbrev Inv-loop : tie.InvT-loop

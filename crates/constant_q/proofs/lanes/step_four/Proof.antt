@@ -3,7 +3,7 @@ use borrow.Author.Needs.{needs}
 use Rattle.constant_q.proofs.lanes.step_four.Statement.{statement}
 use Rattle.constant_q.proofs.lanes.step_four.Tie as tie
 use mathlib.Core.Path.{refl}
-use Rattle.constant_q.specs.Lanes.{steppedFour}
+use Rattle.constant_q.specs.inside.Lanes.{steppedFour}
 
 step-lane-requires : tie.Need-step-lane-requires
 step-lane-requires c κs = search needs

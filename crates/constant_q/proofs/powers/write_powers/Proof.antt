@@ -7,8 +7,8 @@ use Prim.Native.Nat.{_≤_, _-_}
 use mathlib.Core.Path.{_≡_, refl}
 use lib.ListN.{length}
 use Rattle.sheets.specs.Sheet.{joinedLength}
-use Rattle.constant_q.specs.Lanes.{fourPowers}
-use Rattle.constant_q.specs.Powers.{powerAt, powersOf}
+use Rattle.constant_q.specs.inside.Lanes.{fourPowers}
+use Rattle.constant_q.specs.inside.Powers.{powerAt, powersOf}
 use Rattle.laws.proofs.Front.{Filled, filled-start, filled-more, filled-to}
 use Rattle.filters.proofs.Rooms.{filled-four}
 

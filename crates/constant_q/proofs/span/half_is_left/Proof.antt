@@ -3,7 +3,7 @@ use borrow.Author.Needs.{needs}
 use Rattle.constant_q.proofs.span.half_is_left.Statement.{statement}
 use Rattle.constant_q.proofs.span.half_is_left.Tie as tie
 use mathlib.Core.Path.{refl}
-use Rattle.constant_q.specs.Span.{halfLeft}
+use Rattle.constant_q.specs.ConstantQ.{halfLeft}
 
 span-around-requires : tie.Need-span-around-requires
 span-around-requires c κs = search needs

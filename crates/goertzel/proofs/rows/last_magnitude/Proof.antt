@@ -4,7 +4,7 @@ use Rattle.goertzel.proofs.rows.last_magnitude.Statement.{statement}
 use Rattle.goertzel.proofs.rows.last_magnitude.Tie as tie
 use mathlib.Core.Path.{refl}
 use lib.Ieee.{ofBits}
-use Rattle.goertzel.specs.Rows.{lastMagnitude}
+use Rattle.goertzel.specs.Goertzel.{lastMagnitude}
 
 power-requires : tie.Need-power-requires
 power-requires c κs = search needs

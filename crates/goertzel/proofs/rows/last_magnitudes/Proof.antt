@@ -4,13 +4,14 @@ use Rattle.goertzel.proofs.rows.last_magnitudes.Statement.{statement}
 use Rattle.goertzel.proofs.rows.last_magnitudes.Tie as tie
 use native.Mathlib.Omega.{arith}
 use Prim.Native.Nat.{ℕ, _≤_, _-_}
-use lib.ListN.{length}
+use lib.ListN.{length, getD}
+use lib.Ieee.{nan}
 use Rattle.laws.proofs.Front.{Filled, filled-start, filled-more, filled-to}
-use Rattle.goertzel.specs.Goertzel.{rowAt}
-use Rattle.goertzel.specs.Rows.{delays, delayAt, lastMagnitude, lastMagnitudes}
+use Rattle.goertzel.specs.Goertzel.{lastMagnitude}
+use Rattle.goertzel.specs.inside.Rows.{delays, delayAt, lastMagnitudes}
 
 abbrev Inv-loop : tie.InvT-loop
-Inv-loop coefficients weights last before room₀ k₀ room k = (k ≤ length coefficients) × Filled (λ (j : ℕ). lastMagnitude (rowAt coefficients weights j) (delayAt (delays last before) j)) room₀ room k
+Inv-loop coefficients weights last before room₀ k₀ room k = (k ≤ length coefficients) × Filled (λ (j : ℕ). lastMagnitude (getD coefficients j nan) (delayAt (delays last before) j)) room₀ room k
 
 abbrev μ-loop : tie.MeasureT-loop
 μ-loop coefficients weights last before room₀ k₀ room k = length coefficients - k

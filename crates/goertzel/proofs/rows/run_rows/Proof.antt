@@ -9,11 +9,11 @@ use mathlib.Core.Path.{_≡_, refl, _∙_}
 use Rattle.laws.specs.Turns.{turns}
 use Rattle.laws.proofs.Turns.{turns-start, turns-again, turns-end}
 use Rattle.goertzel.specs.Goertzel.{frameValue}
-use Rattle.goertzel.specs.Rows.{Delays, delays, steppedRows, runRows}
+use Rattle.goertzel.specs.inside.Rows.{Delays, delays, steppedRows, runRows}
 
 abbrev Inv-loop : tie.InvT-loop
 Inv-loop samples start window coefficients last₀ before₀ i₀ last before i =
-    (i ≤ length window) × (turns (λ (j : ℕ) (d : Delays). steppedRows coefficients (frameValue samples start window j) d) (length window - i) i (delays last before) ≡ runRows coefficients (frameValue samples start window) (length window) (delays last₀ before₀)) × (length last ≡ length last₀) × (length before ≡ length before₀)
+    (i ≤ length window) × (turns (λ (j : ℕ) (d : Delays). steppedRows coefficients (frameValue window samples start j) d) (length window - i) i (delays last before) ≡ runRows coefficients (frameValue window samples start) (length window) (delays last₀ before₀)) × (length last ≡ length last₀) × (length before ≡ length before₀)
 
 abbrev μ-loop : tie.MeasureT-loop
 μ-loop samples start window coefficients last₀ before₀ i₀ last before i = length window - i

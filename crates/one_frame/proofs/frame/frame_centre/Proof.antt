@@ -1,6 +1,7 @@
 -- `frame_centre` meets its contract: std rounds both numbers.
-use Rattle.one_frame.specs.Frame.{centreOf}
+use Rattle.one_frame.specs.Frame.{secondsAt}
 use borrow.Author.Needs.{needs}
+use mathlib.Core.Path.{refl}
 use Rattle.one_frame.proofs.frame.frame_centre.Statement.{statement}
 use Rattle.one_frame.proofs.frame.frame_centre.Tie as tie
 
@@ -17,8 +18,8 @@ nearest-u64-to-f64-requires-2 : tie.Need-nearest-u64-to-f64-requires-2
 nearest-u64-to-f64-requires-2 c κs = search needs
 
 returns : tie.Need-returns
-unfolding centreOf
-returns c = cc
+unfolding secondsAt
+returns c = rw (c .nearest-u64-to-f642 .ensures, c .before .before .nearest-u64-to-f64 .ensures) refl
 
 pub frame-centre-spec : {M : Type 1} → statement M
 frame-centre-spec =

@@ -7,7 +7,7 @@ use mathlib.Core.Path.{_≡_, refl, sym, _∙_}
 use mathlib.Core.Logic.{⊎-elim}
 use Rattle.laws.specs.Turns.{turns}
 use Rattle.laws.proofs.Turns.{turns-start, turns-again, turns-end}
-use Rattle.one_frame.specs.Frame.{energyTurn, energyOf}
+use Rattle.one_frame.specs.Frame.{squareAdded, frameEnergy}
 use lib.Ieee.Scale.{finite}
 use Rattle.laws.specs.Values.{minusZero}
 use lib.Dec.{T}
@@ -27,7 +27,7 @@ module _ (x sum : Float) {square : Float} where
   nothing-added held told is = rw (told, is) (add-minusZero binary32 sum held)
 
 abbrev Inv-loop : tie.InvT-loop
-Inv-loop samples start size sum₀ i₀ sum i = (i ≤ size) × (turns (energyTurn samples start) (size - i) i sum ≡ turns (energyTurn samples start) size 0 minusZero) × T (fits binary32 sum)
+Inv-loop samples start size sum₀ i₀ sum i = (i ≤ size) × (turns (squareAdded samples start) (size - i) i sum ≡ turns (squareAdded samples start) size 0 minusZero) × T (fits binary32 sum)
 
 abbrev μ-loop : tie.MeasureT-loop
 μ-loop samples start size sum₀ i₀ sum i = size - i
@@ -55,14 +55,14 @@ loop-less : tie.Need-loop-less Inv-loop μ-loop
 loop-less c = search needs
 
 loop-again : tie.Need-loop-again Inv-loop μ-loop
-unfolding energyTurn ofBits neg
+unfolding squareAdded ofBits neg
 loop-again c =
     let turn = c .before .before .before .before in
     let a = turn .before .before .args in
     let x = getD (a .samples .now) (a .start + turn .loop .i) nan in
     let told = sym (c .before .is-finite .ensures) in
     let added = ⊎-elim (λ w. finite-added x (turn .loop .sum) (told ∙ w .0 .taken) (w .1)) (λ w. nothing-added x (turn .loop .sum) (turn .loop .inv .2) (told ∙ w .0 .left) (w .1)) (c .if1 .came) in
-    (omega arith, turns-again (energyTurn (a .samples .now) (a .start)) (a .size) (turn .loop .i) (turn .loop .inv .1) (search needs) added, add-fits binary32 (turn .loop .sum) (c .if1 .square))
+    (omega arith, turns-again (squareAdded (a .samples .now) (a .start)) (a .size) (turn .loop .i) (turn .loop .inv .1) (search needs) added, add-fits binary32 (turn .loop .sum) (c .if1 .square))
 
 cast-nearest-u32-to-f32 : tie.Need-cast-nearest-u32-to-f32 Inv-loop μ-loop
 cast-nearest-u32-to-f32 c = search needs
@@ -71,11 +71,11 @@ nearest-u32-to-f32-requires : tie.Need-nearest-u32-to-f32-requires Inv-loop μ-l
 nearest-u32-to-f32-requires c κs = search needs
 
 returns : tie.Need-returns Inv-loop μ-loop
-unfolding energyOf
+unfolding frameEnergy
 returns c =
     let b = c .before .before in
     let a = b .before .before .args in
-    let e = turns-end (energyTurn (a .samples .now) (a .start)) (a .size) (b .loop .i) (b .loop .inv .1) (search needs) in
+    let e = turns-end (squareAdded (a .samples .now) (a .start)) (a .size) (b .loop .i) (b .loop .inv .1) (search needs) in
     rw (c .nearest-u32-to-f32 .ensures, e)
 
 pub frame-energy-spec : {M : Type 1} → statement M

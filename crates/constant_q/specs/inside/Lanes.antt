@@ -1,14 +1,11 @@
--- Rows around a centre, each with the samples and the window values that go through its resonator, written from the Rust's `CqtTable::chroma_at`.
--- Definitions only.
+-- Only for the code's own steps: no promise names it. Rows around a centre, one by itself or four side by side. Definitions only.
 use Prim.Native.Nat.{ℕ, _+_, _<_, _≤_, min}
 use mathlib.Core.List.{List}
-use lib.IntN.{pos}
 use lib.ListN.{getD}
-use lib.Ieee.{Float, nan, binary32, ofInt, add, sub, mul, div}
-use Rattle.laws.specs.Pick.{maximumNumber}
-use Rattle.laws.specs.Values.{plusZero}
-use Rattle.filters.specs.Resonator.{steppedOf, resonated}
+use lib.Ieee.{Float, nan, binary32, mul}
+use Rattle.filters.specs.Resonator.{steppedOf, resonated, powerOf}
 use Rattle.filters.specs.declared.resonator.Delay.{Delay}
+use Rattle.constant_q.specs.ConstantQ.{perCount}
 use Rattle.constant_q.specs.declared.lanes.Lane.{Lane}
 use Rattle.constant_q.specs.declared.lanes.Lanes.{Lanes}
 use Rattle.constant_q.specs.declared.lanes.Delays.{Delays}
@@ -22,18 +19,9 @@ laneValue samples windows lane i = mul binary32 (getD samples (lane .start + i) 
 abbrev pub laneDelay : List Float → List Float → Lane → ℕ → Delay
 laneDelay samples windows lane n = resonated (lane .coefficient) (laneValue samples windows lane) n
 
--- last * last + before * before - coefficient * last * before
-unfoldable pub lastPower : Float → Delay → Float
-lastPower coefficient d =
-    sub binary32 (add binary32 (mul binary32 (d .last) (d .last)) (mul binary32 (d .before) (d .before))) (mul binary32 (mul binary32 coefficient (d .last)) (d .before))
-
--- a power over the square of the count; what is below 0 and a NaN count as 0
-unfoldable pub perCount : ℕ → Float → Float
-perCount count x = maximumNumber (div binary32 x (mul binary32 (ofInt binary32 (pos count)) (ofInt binary32 (pos count)))) plusZero
-
 -- the power of a lane
 unfoldable pub lanePower : List Float → List Float → Lane → Float
-lanePower samples windows lane = perCount (lane .count) (lastPower (lane .coefficient) (laneDelay samples windows lane (lane .count)))
+lanePower samples windows lane = perCount (lane .count) (powerOf (lane .coefficient) (laneDelay samples windows lane (lane .count)))
 
 -- the lane lies on a track of so many samples and within so many window values, and is no longer than a number of 32 bits says
 pub record Lies (samples windows : ℕ) (lane : Lane) : Type 0 where

@@ -1,18 +1,24 @@
--- All rows' resonators side by side: what they remember stands in two lists. Definitions only.
+-- Only for the code's own steps: no promise names it. All rows' resonators side by side: what they remember stands in two lists. Definitions only.
 use Prim.Native.Nat.{ℕ}
-use mathlib.Core.List.{List}
+use mathlib.Core.List.{List, []}
 use lib.ListN.{length, getD}
 use denote.Ref.{RefT, now}
 use lib.Ieee.{Float, nan}
 use Rattle.laws.specs.Turns.{turns}
 use Rattle.laws.specs.Front.{front, list}
-use Rattle.laws.specs.Pick.{maximumNumber}
-use Rattle.laws.specs.Values.{plusZero}
-use Rattle.roots.specs.Root.{rootOf}
-use Rattle.filters.specs.Resonator.{steppedOf, powerOf}
+use Rattle.calls.specs.Call.{Sheet, sheetOf}
+use Rattle.filters.specs.Resonator.{steppedOf}
 use Rattle.filters.specs.declared.resonator.Delay.{Delay}
 use Rattle.filters.specs.declared.resonator.GoertzelRow.{GoertzelRow}
-use Rattle.goertzel.specs.Goertzel.{rowAt}
+use Rattle.goertzel.specs.Goertzel.{lastMagnitude}
+
+-- the sheet of these rows alone: Goertzel reads nothing else of a sheet, and the magnitudes not even the lowest note
+abbrev pub goertzelRows : ℕ → List Float → List Float → List Float → Sheet
+goertzelRows lowest window coefficients weights = sheetOf (record { rate = 0; «minimum_midi_note» = lowest; «maximum_midi_note» = 0; «frame_size» = 0 }) window coefficients weights [] [] []
+
+-- the sheet's row for the lowest note plus k
+abbrev pub rowAt : List Float → List Float → ℕ → GoertzelRow
+rowAt coefficients weights k = record { coefficient = getD coefficients k nan; weight = getD weights k nan }
 
 -- the last value of each row's resonator, and the one before it
 pub record Delays : Type 0 where
@@ -47,10 +53,6 @@ steppedRows coefficients x d = putDelays (steppedAt coefficients x d) (length co
 unfoldable pub runRows : List Float → (ℕ → Float) → ℕ → Delays → Delays
 runRows coefficients values n d = turns (λ (i : ℕ) (s : Delays). steppedRows coefficients (values i) s) n 0 d
 
--- the square root of the power that a resonator ends with; a power below 0 and a NaN count as 0
-unfoldable pub lastMagnitude : GoertzelRow → Delay → Float
-lastMagnitude row d = rootOf (maximumNumber (powerOf (row .coefficient) d) plusZero)
-
--- of all rows
-unfoldable pub lastMagnitudes : List Float → List Float → Delays → List Float
-lastMagnitudes coefficients weights d = list (λ (k : ℕ). lastMagnitude (rowAt coefficients weights k) (delayAt d k)) (length coefficients)
+-- the magnitudes that all rows' resonators end with
+unfoldable pub lastMagnitudes : List Float → Delays → List Float
+lastMagnitudes coefficients d = list (λ (k : ℕ). lastMagnitude (getD coefficients k nan) (delayAt d k)) (length coefficients)

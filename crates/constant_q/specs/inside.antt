@@ -1,0 +1,3 @@
+-- Only for the code's own steps: no promise names what stands in this folder.
+pub mod Lanes
+pub mod Powers
