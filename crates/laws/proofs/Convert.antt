@@ -10,7 +10,7 @@ use lib.Ieee.{Float, nan, inf, fin, Format, up, down, isNan, fits, le, neg, roun
 use lib.Ieee.Fits.{round-fits, down-pos, nan-fits, inf-fits, neg-fits}
 use lib.Ieee.Positive.{num, den}
 use Rattle.laws.specs.Values.{negative, clear, nonneg, plusZero, minusZero, Held}
-use Rattle.laws.specs.Convert.{converted, Conversion}
+use Rattle.laws.specs.Convert.{converted}
 use Rattle.laws.proofs.Signs.{kind, ordered-of, clear-is, negative-is, neg-round, neg-neg, neg-clear}
 use Rattle.laws.proofs.Order.{le-neg, le-trans, le-left, le-right, apart-le}
 use Rattle.laws.proofs.Nonneg.{Rounds, rounds-mono, rounds-clear, both-finite, greatest, le→cross, nonneg-under}
@@ -98,7 +98,8 @@ module _ (f : Format) where
       subst₂ (λ (a b : Float). T (le a b)) (ap neg (convert-neg f x) ∙ neg-neg (converted f x)) (ap neg (convert-neg f y) ∙ neg-neg (converted f y))
       (le-neg (converted f (neg y)) (converted f (neg x)) (clear-mono f (neg y) (neg x) (neg-clear y q) (neg-clear x p) (le-neg x y h)))
 
-  convert-mono : (x y : Float) → T (le x y) → T (le (converted f x) (converted f y))
+  -- the order of all numbers is kept
+  pub convert-mono : (x y : Float) → T (le x y) → T (le (converted f x) (converted f y))
   convert-mono x y h = by-kinds (kind x) (kind y)
     where
       by-kinds : (x ≡ nan) ⊎ (T (clear x) ⊎ T (negative x)) → (y ≡ nan) ⊎ (T (clear y) ⊎ T (negative y)) → T (le (converted f x) (converted f y))
@@ -113,13 +114,10 @@ module _ (f : Format) where
   held-kept : (x : Float) → Held f x → converted f x ≡ x
   held-kept x h = convert-rounds f x (h .at-least-zero) .is ∙ sym (held-rounds f x h .is)
 
-  convert-keeps : (x : Float) → T (fits f x) → converted f x ≡ x
+  pub convert-keeps : (x : Float) → T (fits f x) → converted f x ≡ x
   unfolding neg
   convert-keeps nan h = unfold converted in refl
   convert-keeps (inf s) h = unfold converted in refl
   convert-keeps (fin false m e) h = held-kept (fin false m e) (record { in-format = h; at-least-zero = tt })
   convert-keeps (fin true m e) h =
       convert-neg f (fin false m e) ∙ ap neg (held-kept (fin false m e) (record { in-format = neg-fits f (fin true m e) h; at-least-zero = tt }))
-
-pub conversion : Conversion
-conversion f = record { monotone = convert-mono f; keeps = convert-keeps f }
