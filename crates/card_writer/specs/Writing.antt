@@ -37,11 +37,11 @@ pub record CanWrite (bytes : List ℕ) (l : Layout) (o : Overall) (ends : List F
 
 -- ---- the theorem that proofs/OneCard.antt proves
 -- what a card of a layout tells by its bytes alone: of meanings that break no card rule one, and of layouts the number; an analysis that is written has such a meaning
-pub record Tells (l : Layout) : Type 0 where
+pub record CardTells (l : Layout) : Type 0 where
   pub one-meaning : (m n : Meaning) → cardBroken l m ≡ false → cardBroken l n ≡ false → cardBytes l m ≡ cardBytes l n → m ≡ n
   pub one-number : (k : Layout) → LayoutFits k → (m n : Meaning) → cardBytes l m ≡ cardBytes k n → l .number ≡ k .number
   pub of-written : (a : Analysis) → unwritable l a ≡ false → cardBroken l (meaningOf l a) ≡ false
 
 -- one meaning has one card, in every layout whose limits fit its widths
 abbrev pub OneMeaningOneCard : Type 0
-OneMeaningOneCard = (l : Layout) → LayoutFits l → Tells l
+OneMeaningOneCard = (l : Layout) → LayoutFits l → CardTells l

@@ -1,15 +1,15 @@
 -- Rounding counted in units of the format's smallest value: the result is the nearest multiple of 2 ^ k units, no number of as few digits is nearer,
 -- and it reaches the overflow exactly from the range's end on.
-use mathlib.Core.Path.{_≡_, refl, sym, ap, _∙_, subst}
+use mathlib.Core.Path.{_≡_, sym, ap, _∙_, subst}
 use mathlib.Core.Logic.{_⊎_, inl, inr}
-use Prim.Native.Nat.{ℕ, zero, suc, _+_, _-_, _*_, _/_, _%_, _^_, _≤_, _<_, compare}
-use native.Mathlib.Nat.{le-refl, le-trans, le-of-eq, lt-irrefl, not-le-of-lt, sub-add-cancel, le-of-lt, lt-of-lt-of-le, lt-of-le-of-lt, mul-comm, mul-assoc, mul-left-comm, mul-right-comm, mul-pos, mul-sub, add-mul, suc-mul, mul-le-mul-right, mul-lt-mul-of-pos-right, le-div-iff-mul-le, div-lt-iff-lt-mul, div-div-eq-div-mul, pow-suc, eq-of-mul-eq-mul-right}
+use Prim.Native.Nat.{ℕ, suc, _+_, _-_, _*_, _/_, _%_, _^_, _≤_, _<_, compare}
+use native.Mathlib.Nat.{le-refl, le-trans, le-of-eq, lt-irrefl, not-le-of-lt, sub-add-cancel, le-of-lt, lt-of-lt-of-le, lt-of-le-of-lt, mul-comm, mul-assoc, mul-pos, mul-sub, suc-mul, mul-le-mul-right, mul-lt-mul-of-pos-right, le-div-iff-mul-le, div-lt-iff-lt-mul, div-div-eq-div-mul, pow-suc, eq-of-mul-eq-mul-right}
 use native.Mathlib.Omega.{arith}
 use lib.Pow.{pow-add, pow-pos, pow-mono, pow-lt}
 use lib.Ieee.{size}
 use lib.Ieee.Digits.{size-lt, size-le, size-reaches, back}
 use lib.Ieee.Fits.{kept-lt, nearest-le}
-use lib.Ieee.Nearest.{closest, nearest-ge}
+use lib.Ieee.Nearest.{nearest-ge}
 use lib.Ieee.Order.{drop, kept}
 use Rattle.laws.specs.Convert.{gap}
 use Rattle.laws.proofs.Cases.{lt-or-ge}

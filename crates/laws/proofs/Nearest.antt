@@ -3,11 +3,11 @@
 use mathlib.Core.Path.{_≡_, refl, sym, ap, ap₂, _∙_, subst, subst₂}
 use mathlib.Core.Logic.{_⊎_, inl, inr}
 use Prim.Native.Nat.{ℕ, zero, suc, _+_, _-_, _*_, _/_, _%_, _^_, _≤_, _<_}
-use native.Mathlib.Nat.{le-refl, le-trans, le-of-eq, le-antisymm, lt-irrefl, lt-of-lt-of-le, lt-of-not-le, le-of-lt, le-of-suc-le-suc, not-le-of-lt, eq-of-mul-eq-mul-right, zero-add, mul-div-cancel, div-lt-iff-lt-mul, eq-zero-or-pos, mul-lt-mul-of-pos-right, mul-comm, mul-assoc, mul-left-comm, mul-right-comm, zero-mul, mul-pos, mul-sub, add-mul, mul-le-mul-right, le-of-mul-le-mul-right}
+use native.Mathlib.Nat.{le-refl, le-trans, le-of-eq, le-antisymm, lt-irrefl, lt-of-lt-of-le, lt-of-not-le, le-of-lt, le-of-suc-le-suc, not-le-of-lt, eq-of-mul-eq-mul-right, zero-add, mul-div-cancel, div-lt-iff-lt-mul, eq-zero-or-pos, mul-lt-mul-of-pos-right, mul-comm, mul-assoc, mul-right-comm, zero-mul, mul-pos, mul-sub, add-mul, mul-le-mul-right, le-of-mul-le-mul-right}
 use native.Mathlib.Omega.{arith}
 use mathlib.Core.Bool.{Bool, true, false, not, Bool·beq, cond, true≢false, false≢true}
 use lib.IntN.{ℤ}
-use lib.Dec.{T, ltb, ltb→lt, lt→ltb, nltb→le}
+use lib.Dec.{T, ltb, ltb→lt, lt→ltb}
 use lib.Pow.{pow-add, pow-pos}
 use lib.Ieee.{Float, nan, inf, fin, Format, binary32, binary64, prec, emax, low, ones, hid, top, up, down, odd, units, round, fits, isNan, ofFields, ofBits, toBits, neg}
 use lib.Ieee.Fits.{round-is, round-fits, neg-fits, down-pos, two, two-le-pos}
