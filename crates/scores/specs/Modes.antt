@@ -6,7 +6,7 @@ use lib.Ieee.{Float, nan, binary32, add}
 use Rattle.laws.specs.Turns.{turns}
 use Rattle.laws.specs.Front.{list}
 use Rattle.laws.specs.Values.{plusZero}
-use Rattle.correlations.specs.Distances.{wheelOf}
+use Rattle.correlations.specs.Deviations.{wheelOf}
 use Rattle.correlations.specs.Lanes.{alike, twelve, turnedOf}
 use Rattle.scores.specs.Profiles.{profileAt}
 
@@ -16,7 +16,7 @@ addedAll sums more = list (λ (i : ℕ). add binary32 (getD sums i nan) (getD mo
 
 -- profile p of the mode
 unfoldable pub modeTurn : List Float → Float → ℕ → ℕ → List Float → List Float
-modeTurn away chroma mode p sums = addedAll sums (turnedOf away chroma (wheelOf (profileAt (2 * p + mode))))
+modeTurn away chromaEnergy mode p sums = addedAll sums (turnedOf away chromaEnergy (wheelOf (profileAt (2 * p + mode))))
 
 -- twelve sums of nothing
 abbrev pub noSums : List Float
@@ -24,4 +24,4 @@ noSums = twelve (alike plusZero) (alike plusZero) (alike plusZero)
 
 -- the correlations with the four profiles of a mode together, by root
 unfoldable pub modeSums : List Float → Float → ℕ → List Float
-modeSums away chroma mode = turns (modeTurn away chroma mode) 4 0 noSums
+modeSums away chromaEnergy mode = turns (modeTurn away chromaEnergy mode) 4 0 noSums

@@ -11,10 +11,10 @@ use Rattle.scores.proofs.scoring.sum_mode.Statement.{statement}
 use Rattle.scores.proofs.scoring.sum_mode.Tie as tie
 
 abbrev Inv-loop : tie.InvT-loop
-Inv-loop away chroma mode sums₀ p₀ sums p = (p ≤ 4) × (turns (modeTurn away chroma mode) (4 - p) p sums ≡ modeSums away chroma mode)
+Inv-loop away energy mode sums₀ p₀ sums p = (p ≤ 4) × (turns (modeTurn away energy mode) (4 - p) p sums ≡ modeSums away energy mode)
 
 abbrev μ-loop : tie.MeasureT-loop
-μ-loop away chroma mode sums₀ p₀ sums p = 4 - p
+μ-loop away energy mode sums₀ p₀ sums p = 4 - p
 
 loop-holds : tie.Need-loop-holds Inv-loop μ-loop
 unfolding ofBits modeSums
