@@ -3,7 +3,7 @@
 use mathlib.Core.Path.{_≡_, sym, ap, _∙_, subst}
 use mathlib.Core.Logic.{_⊎_, inl, inr}
 use Prim.Native.Nat.{ℕ, suc, _+_, _-_, _*_, _/_, _%_, _^_, _≤_, _<_, compare}
-use native.Mathlib.Nat.{le-refl, le-trans, le-of-eq, lt-irrefl, not-le-of-lt, sub-add-cancel, le-of-lt, lt-of-lt-of-le, lt-of-le-of-lt, mul-comm, mul-assoc, mul-pos, mul-sub, suc-mul, mul-le-mul-right, mul-lt-mul-of-pos-right, le-div-iff-mul-le, div-lt-iff-lt-mul, div-div-eq-div-mul, pow-suc, eq-of-mul-eq-mul-right}
+use native.Mathlib.Nat.{le-refl, le-trans, le-of-eq, lt-irrefl, not-le-of-lt, sub-add-cancel, le-of-lt, lt-of-lt-of-le, lt-of-le-of-lt, mul-comm, mul-assoc, mul-pos, suc-mul, mul-le-mul-right, mul-lt-mul-of-pos-right, le-div-iff-mul-le, div-lt-iff-lt-mul, div-div-eq-div-mul, pow-suc, eq-of-mul-eq-mul-right}
 use native.Mathlib.Omega.{arith}
 use lib.Pow.{pow-add, pow-pos, pow-mono, pow-lt}
 use lib.Ieee.{size}
@@ -14,6 +14,7 @@ use lib.Ieee.Order.{drop, kept}
 use Rattle.laws.specs.Convert.{gap}
 use Rattle.laws.proofs.Cases.{lt-or-ge}
 use Rattle.laws.proofs.Closest.{Near, closest-near}
+use Rattle.laws.proofs.Nonneg.{sub-mul}
 
 -- ---- a multiple of u is not nearer than the closest one, and where it is as near that one is even
 module _ (n u q m : ℕ) (U : 0 < u) (near : Near n u q) where
@@ -104,14 +105,11 @@ module _ (p n c : ℕ) (P : 0 < p) (C : 0 < c) where
 
   -- ---- the range's end is half a step below 2 ^ (p + d + 1) units, d + 1 digits being dropped there
   module _ (d : ℕ) where
-    sub-mul : (a b : ℕ) → (a - b) * c ≡ a * c - b * c
-    sub-mul a b = mul-comm (a - b) c ∙ mul-sub c a b ∙ ap (λ (z : ℕ). z - c * b) (mul-comm c a) ∙ ap (λ (z : ℕ). a * c - z) (mul-comm c b)
-
     half-step : k ≡ suc d → u ≡ 2 ^ d * c * 2
     half-step e = ap (λ (j : ℕ). c * 2 ^ j) e ∙ ap (λ (x : ℕ). c * x) (pow-suc 2 d) ∙ sym (mul-assoc c (2 ^ d) 2) ∙ ap (λ (x : ℕ). x * 2) (mul-comm c (2 ^ d))
 
     end-is : k ≡ suc d → (2 ^ (p + suc d) - 2 ^ d) * c ≡ 2 ^ p * u - 2 ^ d * c
-    end-is e = sub-mul (2 ^ (p + suc d)) (2 ^ d) ∙ ap (λ (x : ℕ). x - 2 ^ d * c) (ap (λ (x : ℕ). x * c) (pow-add 2 p (suc d) ∙ ap (λ (j : ℕ). 2 ^ p * 2 ^ j) (sym e)) ∙ in-steps (2 ^ p))
+    end-is e = sub-mul (2 ^ (p + suc d)) (2 ^ d) c ∙ ap (λ (x : ℕ). x - 2 ^ d * c) (ap (λ (x : ℕ). x * c) (pow-add 2 p (suc d) ∙ ap (λ (j : ℕ). 2 ^ p * 2 ^ j) (sym e)) ∙ in-steps (2 ^ p))
 
     pub below-end : n < (2 ^ (p + suc d) - 2 ^ d) * c → q * 2 ^ k < 2 ^ (p + suc d)
     below-end l = elim (lt-or-ge k (suc d)) [

@@ -3,7 +3,7 @@
 use mathlib.Core.Path.{_≡_, refl, sym, ap, ap₂, _∙_, subst, subst₂}
 use mathlib.Core.Logic.{_⊎_, inl, inr}
 use Prim.Native.Nat.{ℕ, zero, suc, _+_, _-_, _*_, _/_, _%_, _^_, _≤_, _<_}
-use native.Mathlib.Nat.{le-refl, le-trans, le-of-eq, le-antisymm, lt-irrefl, lt-of-lt-of-le, lt-of-not-le, le-of-lt, le-of-suc-le-suc, not-le-of-lt, eq-of-mul-eq-mul-right, zero-add, mul-div-cancel, div-lt-iff-lt-mul, eq-zero-or-pos, mul-lt-mul-of-pos-right, mul-comm, mul-assoc, mul-right-comm, zero-mul, mul-pos, mul-sub, add-mul, mul-le-mul-right, le-of-mul-le-mul-right}
+use native.Mathlib.Nat.{le-refl, le-trans, le-of-eq, le-antisymm, lt-irrefl, lt-of-lt-of-le, lt-of-not-le, le-of-lt, le-of-suc-le-suc, not-le-of-lt, eq-of-mul-eq-mul-right, zero-add, mul-div-cancel, div-lt-iff-lt-mul, eq-zero-or-pos, mul-lt-mul-of-pos-right, mul-comm, mul-assoc, mul-right-comm, zero-mul, mul-pos, add-mul, mul-le-mul-right, le-of-mul-le-mul-right}
 use native.Mathlib.Omega.{arith}
 use mathlib.Core.Bool.{Bool, true, false, not, Bool·beq, cond, true≢false, false≢true}
 use lib.IntN.{ℤ}
@@ -21,15 +21,12 @@ use Rattle.laws.specs.Convert.{converted, gap, distance, rangeEnd, Round
 use Rattle.laws.proofs.Cases.{same-test, lt-or-ge}
 use Rattle.laws.proofs.Signs.{not-nan, ordered-is, neg-round, neg-neg, magnitude-fits, magnitude-of-negative, magnitude-of-positive, minus-bits}
 use Rattle.laws.proofs.Patterns.{pattern, pattern-mono, written, bits-of-units, known-by-bits, read-plus, no-lead, with-lead}
-use Rattle.laws.proofs.Nonneg.{nonneg→ordered}
+use Rattle.laws.proofs.Nonneg.{nonneg→ordered, sub-mul}
 use Rattle.laws.proofs.Held.{InUnits, fits-units, held-same, value-nonneg}
 use Rattle.laws.proofs.Total.{held-lt}
 use Rattle.laws.proofs.Grid.{kept-most, kept-least, nearest-units, even-units, below-end, from-end}
 
 -- ---- distances as fractions, and counted in units of 1 / l
-sub-mul : (a b k : ℕ) → (a - b) * k ≡ a * k - b * k
-sub-mul a b k = mul-comm (a - b) k ∙ mul-sub k a b ∙ ap (λ (z : ℕ). z - k * b) (mul-comm k a) ∙ ap (λ (z : ℕ). a * k - z) (mul-comm k b)
-
 gap-mul : (a b k : ℕ) → gap a b * k ≡ gap (a * k) (b * k)
 gap-mul a b k = add-mul (a - b) (b - a) k ∙ ap₂ (λ (x y : ℕ). x + y) (sub-mul a b k) (sub-mul b a k)
 

@@ -11,7 +11,7 @@ use lib.Ieee.Bits.{is-true, is-false}
 use Rattle.laws.specs.Order.{totalOrder}
 use Rattle.laws.specs.Pick.{maximumNumber, minimumNumber, LastNumber, MaximumIs, MinimumIs}
 use Rattle.laws.specs.Values.{negative, clear, nonneg, plusZero, Held}
-use Rattle.laws.proofs.Order.{lt→le, le-left, le-right, le-refl, not-lt→le, le→not-lt, apart-le}
+use Rattle.laws.proofs.Order.{or-split, lt→le, le-left, le-right, le-refl, not-lt→le, le→not-lt, apart-le}
 use Rattle.laws.proofs.Nonneg.{nonneg→ordered}
 use Rattle.laws.proofs.Cases.{by-test, passed-or-failed}
 use Rattle.laws.proofs.Signs.{kind, nan-is, clear-is, negative-is, ordered-of, ordered-is}
@@ -21,10 +21,6 @@ use Rattle.laws.proofs.Total.{total-order}
 second-of : (a b : Bool) → T b → T (a || b)
 second-of true b t = tt
 second-of false b t = t
-
-or-split : (a b : Bool) → T (a || b) → T a ⊎ T b
-or-split true b t = inl tt
-or-split false b t = inr t
 
 -- ---- in the total order, where `<` does not say the contrary
 module _ (x y : Float) (n : isNan x ≡ false) (h : T (not (lt y x))) where
@@ -48,15 +44,15 @@ itself x = elim (kind x) [
     numbered n = let h = le→not-lt x x (le-refl x (ordered-of x n)) in elim (passed-or-failed (negative x)) [ inl s ↦ minus-first x x n h s | inr s ↦ plus-last x x n h s ]
 
 -- ---- what the tests of the two say
-one-of : (a b c : Bool) → T (a || b || c) → T a ⊎ (T b ⊎ T c)
-one-of true b c t = inl tt
-one-of false true c t = inr (inl tt)
-one-of false false c t = inr (inr t)
+some-passed : (a b c : Bool) → T (a || b || c) → T a ⊎ (T b ⊎ T c)
+some-passed true b c t = inl tt
+some-passed false true c t = inr (inl tt)
+some-passed false false c t = inr (inr t)
 
-none-of : (a b c : Bool) → T (not (a || b || c)) → T (not a) × (T (not b) × T (not c))
-none-of true b c t = absurd t
-none-of false true c t = absurd t
-none-of false false c t = (tt, (tt, t))
+all-failed : (a b c : Bool) → T (not (a || b || c)) → T (not a) × (T (not b) × T (not c))
+all-failed true b c t = absurd t
+all-failed false true c t = absurd t
+all-failed false false c t = (tt, (tt, t))
 
 level-swap : (s : Bool) (a : ℕ) (t : Bool) (b : ℕ) → T (level s a t b) → T (level t b s a)
 level-swap s a t b h =
@@ -123,12 +119,12 @@ module _ (x y : Float) where
   max-second : T (isNan x || lt x y || (eq x y && negative x)) → Picks totalOrder x y
   max-second t = record {
     at-last = itself y;
-    number = λ e. elim (one-of (isNan x) (lt x y) (eq x y && negative x) t) [
+    number = λ e. elim (some-passed (isNan x) (lt x y) (eq x y && negative x) t) [
       | inl n ↦ nan-is x (is-true (isNan x) n)
       | inr (inl l) ↦ absurd (compared-number x y (lt→le x y l) e)
       | inr (inr q) ↦ absurd (compared-number x y (eq→le x y (and-l (eq x y) (negative x) q)) e)
     ];
-    after = λ n. elim (one-of (isNan x) (lt x y) (eq x y && negative x) t) [
+    after = λ n. elim (some-passed (isNan x) (lt x y) (eq x y && negative x) t) [
       | inl a ↦ absurd (not-nan-of x n a)
       | inr (inl l) ↦ subst T (sym (total-order binary32 .by-value x y l .0)) tt
       | inr (inr q) ↦ minus-first x y n (level-under x y (and-l (eq x y) (negative x) q)) (and-r (eq x y) (negative x) q)
@@ -137,7 +133,7 @@ module _ (x y : Float) where
 
   max-first : T (not (isNan x || lt x y || (eq x y && negative x))) → Picks totalOrder y x
   max-first t =
-      let f = none-of (isNan x) (lt x y) (eq x y && negative x) t in
+      let f = all-failed (isNan x) (lt x y) (eq x y && negative x) t in
       record {
         at-last = itself x;
         number = λ e. absurd (T-not (isNan x) (f .0) (rw e (unfold isNan in tt)));
@@ -147,12 +143,12 @@ module _ (x y : Float) where
   min-second : T (isNan x || lt y x || (eq x y && negative y)) → Picks (λ (a b : Float). totalOrder b a) x y
   min-second t = record {
     at-last = itself y;
-    number = λ e. elim (one-of (isNan x) (lt y x) (eq x y && negative y) t) [
+    number = λ e. elim (some-passed (isNan x) (lt y x) (eq x y && negative y) t) [
       | inl n ↦ nan-is x (is-true (isNan x) n)
       | inr (inl l) ↦ absurd (rw e at (le-left y x (lt→le y x l)))
       | inr (inr q) ↦ absurd (compared-number x y (eq→le x y (and-l (eq x y) (negative y) q)) e)
     ];
-    after = λ n. elim (one-of (isNan x) (lt y x) (eq x y && negative y) t) [
+    after = λ n. elim (some-passed (isNan x) (lt y x) (eq x y && negative y) t) [
       | inl a ↦ absurd (not-nan-of x n a)
       | inr (inl l) ↦ subst T (sym (total-order binary32 .by-value y x l .0)) tt
       | inr (inr q) ↦
@@ -163,7 +159,7 @@ module _ (x y : Float) where
 
   min-first : T (not (isNan x || lt y x || (eq x y && negative y))) → Picks (λ (a b : Float). totalOrder b a) y x
   min-first t =
-      let f = none-of (isNan x) (lt y x) (eq x y && negative y) t in
+      let f = all-failed (isNan x) (lt y x) (eq x y && negative y) t in
       record {
         at-last = itself x;
         number = λ e. absurd (T-not (isNan x) (f .0) (rw e (unfold isNan in tt)));

@@ -27,7 +27,8 @@ abbrev pub rangeEnd : Format → ℕ
 rangeEnd f = 2 ^ suc (emax f) - 2 ^ (emax f - prec f)
 
 -- IEEE 754 4.3.1 roundTiesToEven, of a finite x to a value r of the format f. r has x's sign, a zero too, and is an infinity exactly where x is out of range.
--- Where r is finite, no finite value y of the format is nearer to x, and where another is as near, r's last digit is 0: its pattern is even.
+-- Where r is finite, no finite value y of the format is nearer to x: distance x r / den r is at most distance x y / den y.
+-- Where another is as near, r's last digit is 0: its pattern is even.
 pub record RoundsToEven (f : Format) (x r : Float) : Type 0 where
   pub held : T (fits f r)
   pub number : isNan r ≡ false
