@@ -44,8 +44,11 @@ loop-less c = search needs
 loop-again : tie.Need-loop-again Inv-loop μ-loop
 unfolding modeTurn
 loop-again c =
-    let turn = c .before .before .before .before .before .before .before in
-    (omega arith, turns-again _ 4 (turn .loop .p) (turn .loop .inv .1) (c .before .before .before .before .before .before .loop-test .taken) cc)
+    let turn = c .before .before .before .before .before .before .before in (
+      omega arith,
+      turns-again _ 4 (turn .loop .p) (turn .loop .inv .1) (c .before .before .before .before .before .before .loop-test .taken)
+          (rw (c .add-twelve .ensures, c .before .before .before .correlations .ensures, c .before .before .before .before .before .wheel-at .ensures)),
+    )
 
 returns : tie.Need-returns Inv-loop μ-loop
 returns c = turns-end _ 4 (c .before .loop .p) (c .before .loop .inv .1) (c .loop-test .left)
