@@ -17,7 +17,7 @@ use Rattle.laws.specs.Values.{plusZero, epsilon, ordered, clear, nonneg}
 use Rattle.laws.proofs.Leader.{Leading, leads-rightly, somebody-leads}
 use Rattle.laws.proofs.Order.{le-refl, le-trans, lt→le, lt-not-le, not-le→lt, not-lt→le, lt-of-le-of-lt}
 use Rattle.laws.proofs.Nonneg.{nonneg→ordered, clear→ordered, positive→nonneg, add-mono, div-clear, div-mono}
-use Rattle.laws.proofs.Convert.{conversion, convert-clear}
+use Rattle.laws.proofs.Convert.{convert-mono, convert-clear}
 use Rattle.laws.proofs.Total.{total-order}
 use Rattle.timeline.specs.Segments.{segmentAt}
 use Rattle.timeline.specs.declared.segment.Segment.{Segment}
@@ -34,7 +34,7 @@ unfolding lacks coverageOf
 lacks-mono threshold all d e p c c' h t =
     let part = div-clear binary64 d all c p in
     let part' = div-clear binary64 e all c' p in
-    let covered = conversion binary32 .monotone (div binary64 d all) (div binary64 e all) (div-mono binary64 d e all all c c' p p h (le-refl all (nonneg→ordered all (positive→nonneg all p)))) in
+    let covered = convert-mono binary32 (div binary64 d all) (div binary64 e all) (div-mono binary64 d e all all c c' p p h (le-refl all (nonneg→ordered all (positive→nonneg all p)))) in
     lt-of-le-of-lt (add binary32 (coverageOf all d) epsilon) (add binary32 (coverageOf all e) epsilon) threshold
     (add-mono binary32 (coverageOf all d) (coverageOf all e) epsilon epsilon (convert-clear binary32 (div binary64 d all) part) (convert-clear binary32 (div binary64 e all) part') (unfold ofBits in tt) (unfold ofBits in tt) covered (unfold ofBits le in tt)) t
 

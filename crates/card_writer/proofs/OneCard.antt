@@ -10,7 +10,6 @@ use Rattle.bits.specs.Bits.{bitsOf, numberOf, bitsOfBytes, bytesFor}
 use Rattle.card.specs.Layout.{Meaning, HeaderFits, SegmentFits}
 use Rattle.card_writer.specs.Form.{headerBits, segmentWidth, segmentBits, segmentsBits, cardBits, cardBytes}
 use Rattle.card.specs.Rules.{segmentIn}
-use Rattle.card_judge.specs.Analysed.{Analysis, meaningOf}
 use Rattle.card_writer.specs.Writing.{OneMeaningOneCard}
 use Rattle.card.specs.declared.layout.Layout.{Layout}
 use Rattle.card.specs.declared.layout.Header.{Header}
@@ -126,10 +125,24 @@ same-meaning l m n fm fn same =
     let segments = halves (segmentsBits l (m .segments)) (segmentsBits l (n .segments)) _ _ size (parts .1) in
     ap₂ (λ (h : Header) (ss : List Segment). record { header = h; segments = ss }) (header .header) (same-segments l (m .segments) (n .segments) (header .count) (fm .segment) (fn .segment) (segments .0))
 
+-- ---- the layout's number, in the first four bits
+behindNumber : Layout → Meaning → List ℕ
+behindNumber l m =
+    let h = m .header in
+    bitsOf 5 (h .key) ++ (bitsOf 5 (h .dsp) ++ (bitsOf 5 (h .alternate) ++ (bitsOf 10 (h .coverage) ++ (bitsOf 10 (h .confidence) ++ (bitsOf (l .count) (length (m .segments)) ++ behind l m)))))
+
+number-first : (l : Layout) (m : Meaning) → bitsOfBytes (cardBytes l m) ≡ bitsOf 4 (l .number) ++ behindNumber l m
+unfolding behindNumber
+number-first l m = apart l m ∙ simp append-assoc
+
+same-number : (l k : Layout) (m n : Meaning) → l .number < 2 ^ 4 → k .number < 2 ^ 4 → cardBytes l m ≡ cardBytes k n → l .number ≡ k .number
+same-number l k m n fl fk same =
+    let both = halves (bitsOf 4 (l .number)) (bitsOf 4 (k .number)) (behindNumber l m) (behindNumber k n) (simp length-bits) (sym (number-first l m) ∙ ap bitsOfBytes same ∙ number-first k n) in
+    last-field [] [] 4 (both .0) refl fl fk .1
+
 pub one-meaning-one-card : OneMeaningOneCard
-one-meaning-one-card l fits a b wa wb =
-    let fit : (x : Analysis) → _ → CardFits l (meaningOf l x) = λ x w. card-fits l (meaningOf l x) fits (writable-good l x w) in
-    record {
-      one-card = ap (cardBytes l);
-      one-meaning = same-meaning l (meaningOf l a) (meaningOf l b) (fit a wa) (fit b wb);
-    }
+one-meaning-one-card l fits = record {
+  one-meaning = λ m n gm gn. same-meaning l m n (card-fits l m fits gm) (card-fits l n fits gn);
+  one-number = λ k fk m n. same-number l k m n (fits .number) (fk .number);
+  of-written = writable-good l;
+}

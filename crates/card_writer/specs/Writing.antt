@@ -7,7 +7,7 @@ use lib.ListN.{length}
 use lib.Ieee.{Float}
 use Rattle.bits.specs.Pens.{PenReady, bitCount}
 use Rattle.bits.specs.declared.pen.Pen.{Pen}
-use Rattle.card.specs.Layout.{LayoutFits, SegmentFits}
+use Rattle.card.specs.Layout.{Meaning, LayoutFits, SegmentFits}
 use Rattle.card.specs.Rules.{cardBroken}
 use Rattle.card.specs.declared.layout.Layout.{Layout}
 use Rattle.card_judge.specs.declared.analysed.Overall.{Overall}
@@ -36,11 +36,12 @@ pub record CanWrite (bytes : List ℕ) (l : Layout) (o : Overall) (ends : List F
   pub room : cardSize l (length ends) ≤ length bytes
 
 -- ---- the theorem that proofs/OneCard.antt proves
--- equal packed numbers give equal bytes, and different ones different bytes
-pub record SameCard (l : Layout) (a b : Analysis) : Type 0 where
-  pub one-card : meaningOf l a ≡ meaningOf l b → cardBytes l (meaningOf l a) ≡ cardBytes l (meaningOf l b)
-  pub one-meaning : cardBytes l (meaningOf l a) ≡ cardBytes l (meaningOf l b) → meaningOf l a ≡ meaningOf l b
+-- what a card of a layout tells by its bytes alone: of meanings that break no card rule one, and of layouts the number; an analysis that is written has such a meaning
+pub record CardTells (l : Layout) : Type 0 where
+  pub one-meaning : (m n : Meaning) → cardBroken l m ≡ false → cardBroken l n ≡ false → cardBytes l m ≡ cardBytes l n → m ≡ n
+  pub one-number : (k : Layout) → LayoutFits k → (m n : Meaning) → cardBytes l m ≡ cardBytes k n → l .number ≡ k .number
+  pub of-written : (a : Analysis) → unwritable l a ≡ false → cardBroken l (meaningOf l a) ≡ false
 
--- one meaning has one card: so it is for any two analyses that are written
+-- one meaning has one card, in every layout whose limits fit its widths
 abbrev pub OneMeaningOneCard : Type 0
-OneMeaningOneCard = (l : Layout) → LayoutFits l → (a b : Analysis) → unwritable l a ≡ false → unwritable l b ≡ false → SameCard l a b
+OneMeaningOneCard = (l : Layout) → LayoutFits l → CardTells l

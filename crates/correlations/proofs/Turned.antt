@@ -11,38 +11,38 @@ use Rattle.laws.specs.Values.{plusZero}
 use Rattle.laws.proofs.Turns.{turns-part}
 use Rattle.laws.proofs.Front.{getD-list}
 use Rattle.correlations.specs.declared.lanes.Lanes.{Lanes}
-use Rattle.correlations.specs.Correlation.{meanOf, distance, rotated, productTurn, chromaTurn, profileTurn, sumsOf, correlationOf}
-use Rattle.correlations.specs.Distances.{distancesOf, energyTurn, energyOf, backward, wheelOf}
+use Rattle.correlations.specs.Correlation.{meanOf, deviation, rotated, productTurn, chromaTurn, profileTurn, sumsOf, correlationOf}
+use Rattle.correlations.specs.Deviations.{deviationsOf, deviationEnergyTurn, deviationEnergy, backward, wheelOf}
 use Rattle.correlations.specs.Lanes.{four, productAdded, addedFour, lanesTurn, noLanes, lanesOf, quotientAt, quotientsOf, twelve, turnedOf}
 
--- a distance
-away-at : (values : List Float) (i : ℕ) → i < 12 → getD (distancesOf values) i nan ≡ distance values (meanOf values) i
-unfolding distancesOf
-away-at values i h = getD-list (distance values (meanOf values)) 12 i nan h
+-- a deviation
+away-at : (values : List Float) (i : ℕ) → i < 12 → getD (deviationsOf values) i nan ≡ deviation values (meanOf values) i
+unfolding deviationsOf
+away-at values i h = getD-list (deviation values (meanOf values)) 12 i nan h
 
--- a rotated distance
-wheel-at : (values : List Float) (root i j : ℕ) → root < 12 → i < 12 → j + i ≡ root + 11 → getD (wheelOf values) j nan ≡ distance values (meanOf values) (rotated root i)
+-- a rotated deviation
+wheel-at : (values : List Float) (root i j : ℕ) → root < 12 → i < 12 → j + i ≡ root + 11 → getD (wheelOf values) j nan ≡ deviation values (meanOf values) (rotated root i)
 unfolding wheelOf
 wheel-at values root i j r h e =
     let turned : 23 - j ≡ i + 12 - root = omega arith in
-    getD-list (λ (k : ℕ). getD (distancesOf values) (backward k) nan) 23 j nan (omega arith)
+    getD-list (λ (k : ℕ). getD (deviationsOf values) (backward k) nan) 23 j nan (omega arith)
     ∙ away-at values (backward j) (omega arith)
-    ∙ ap (λ (k : ℕ). distance values (meanOf values) (k % 12)) turned
+    ∙ ap (λ (k : ℕ). deviation values (meanOf values) (k % 12)) turned
 
 -- the chroma's squares
-energy-is : (chroma : List Float) → energyOf (distancesOf chroma) ≡ turns (chromaTurn chroma (meanOf chroma)) 12 0 plusZero
-unfolding energyOf
+energy-is : (chroma : List Float) → deviationEnergy (deviationsOf chroma) ≡ turns (chromaTurn chroma (meanOf chroma)) 12 0 plusZero
+unfolding deviationEnergy
 energy-is chroma =
-    turns-part (λ (s : Float). s) (energyTurn (distancesOf chroma)) (chromaTurn chroma (meanOf chroma)) 12 0
+    turns-part (λ (s : Float). s) (deviationEnergyTurn (deviationsOf chroma)) (chromaTurn chroma (meanOf chroma)) 12 0
     (λ (i : ℕ) (s : Float) (h : i < 0 + 12). ap (λ (x : Float). add binary32 s (mul binary32 x x)) (away-at chroma i (omega arith))) plusZero
 
 -- one lane's correlation is that of its root; `products` and `squares` pick the lane's sums, and `from` is where it reads the wheel
 module _ (chroma profile : List Float) (base root : ℕ) (from : ℕ → ℕ) (r : root < 12) (f : (i : ℕ) → i < 12 → from i + i ≡ root + 11) where
   abbrev step : ℕ → Lanes → Lanes
-  step = lanesTurn (distancesOf chroma) (wheelOf profile) base
+  step = lanesTurn (deviationsOf chroma) (wheelOf profile) base
 
   abbrev summed : Lanes
-  summed = lanesOf (distancesOf chroma) (wheelOf profile) base
+  summed = lanesOf (deviationsOf chroma) (wheelOf profile) base
 
   abbrev productSum : Float → Float
   productSum = turns (productTurn chroma profile root (meanOf chroma) (meanOf profile)) 12 0
@@ -50,10 +50,10 @@ module _ (chroma profile : List Float) (base root : ℕ) (from : ℕ → ℕ) (r
   abbrev squareSum : Float → Float
   squareSum = turns (profileTurn profile root (meanOf profile)) 12 0
 
-  read-at : (i : ℕ) → i < 12 → getD (wheelOf profile) (from i) nan ≡ distance profile (meanOf profile) (rotated root i)
+  read-at : (i : ℕ) → i < 12 → getD (wheelOf profile) (from i) nan ≡ deviation profile (meanOf profile) (rotated root i)
   read-at i h = wheel-at profile root i (from i) r h (f i h)
 
-  lane-products : (products : Lanes → Float) → ((i : ℕ) (s : Lanes) → products (step i s) ≡ productAdded (products s) (getD (distancesOf chroma) i nan) (getD (wheelOf profile) (from i) nan)) → products summed ≡ productSum (products noLanes)
+  lane-products : (products : Lanes → Float) → ((i : ℕ) (s : Lanes) → products (step i s) ≡ productAdded (products s) (getD (deviationsOf chroma) i nan) (getD (wheelOf profile) (from i) nan)) → products summed ≡ productSum (products noLanes)
   unfolding lanesOf
   lane-products products e =
       turns-part products step (productTurn chroma profile root (meanOf chroma) (meanOf profile)) 12 0
@@ -66,15 +66,15 @@ module _ (chroma profile : List Float) (base root : ℕ) (from : ℕ → ℕ) (r
       (λ (i : ℕ) (s : Lanes) (h : i < 0 + 12). e i s ∙ rw (read-at i (omega arith))) noLanes
 
   lane : (products squares : Lanes → Float) → products noLanes ≡ plusZero → squares noLanes ≡ plusZero
-      → ((i : ℕ) (s : Lanes) → products (step i s) ≡ productAdded (products s) (getD (distancesOf chroma) i nan) (getD (wheelOf profile) (from i) nan))
+      → ((i : ℕ) (s : Lanes) → products (step i s) ≡ productAdded (products s) (getD (deviationsOf chroma) i nan) (getD (wheelOf profile) (from i) nan))
       → ((i : ℕ) (s : Lanes) → squares (step i s) ≡ productAdded (squares s) (getD (wheelOf profile) (from i) nan) (getD (wheelOf profile) (from i) nan))
-      → quotientAt (products summed) (energyOf (distancesOf chroma)) (squares summed) ≡ correlationOf chroma profile root
+      → quotientAt (products summed) (deviationEnergy (deviationsOf chroma)) (squares summed) ≡ correlationOf chroma profile root
   unfolding correlationOf sumsOf
   lane products squares p s e d = rw (lane-products products e ∙ ap productSum p, lane-squares squares d ∙ ap squareSum s, energy-is chroma)
 
 -- the correlations at four roots
 quotients-are : (chroma profile : List Float) (root : ℕ) → root ≤ 8
-    → quotientsOf (lanesOf (distancesOf chroma) (wheelOf profile) root) (energyOf (distancesOf chroma))
+    → quotientsOf (lanesOf (deviationsOf chroma) (wheelOf profile) root) (deviationEnergy (deviationsOf chroma))
     ≡ four (correlationOf chroma profile root) (correlationOf chroma profile (root + 1)) (correlationOf chroma profile (root + 2)) (correlationOf chroma profile (root + 3))
 unfolding quotientsOf lanesTurn addedFour
 quotients-are chroma profile root h =
@@ -85,6 +85,6 @@ quotients-are chroma profile root h =
     λ k. four (first k) (second k) (third k) (fourth k)
 
 -- the correlations at all roots
-pub turned-is : (chroma profile : List Float) → turnedOf (distancesOf chroma) (energyOf (distancesOf chroma)) (wheelOf profile) ≡ list (correlationOf chroma profile) 12
+pub turned-is : (chroma profile : List Float) → turnedOf (deviationsOf chroma) (deviationEnergy (deviationsOf chroma)) (wheelOf profile) ≡ list (correlationOf chroma profile) 12
 unfolding turnedOf list
 turned-is chroma profile = λ k. twelve (quotients-are chroma profile 0 (omega arith) k) (quotients-are chroma profile 4 (omega arith) k) (quotients-are chroma profile 8 (omega arith) k)

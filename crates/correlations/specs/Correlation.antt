@@ -14,9 +14,9 @@ use Rattle.correlations.specs.declared.correlation.Sums.{Sums}
 abbrev pub meanOf : List Float → Float
 meanOf values = div binary32 (sumOf 12 values) (ofBits binary32 0x4140_0000)
 
--- how far value i is from the mean
-abbrev pub distance : List Float → Float → ℕ → Float
-distance values mean i = sub binary32 (getD values i nan) mean
+-- value i less the mean
+abbrev pub deviation : List Float → Float → ℕ → Float
+deviation values mean i = sub binary32 (getD values i nan) mean
 
 -- the profile's value for pitch class i: it is read rotated by the root
 abbrev pub rotated : ℕ → ℕ → ℕ
@@ -24,27 +24,27 @@ rotated root i = (i + 12 - root) % 12
 
 -- ---- three sums over the pitch classes from C up: products, and squares of either side; the profile's squares are summed in rotated order
 abbrev pub productTurn : List Float → List Float → ℕ → Float → Float → ℕ → Float → Float
-productTurn chroma profile root mean weight i sum = add binary32 sum (mul binary32 (distance chroma mean i) (distance profile weight (rotated root i)))
+productTurn chroma profile root mean profileMean i sum = add binary32 sum (mul binary32 (deviation chroma mean i) (deviation profile profileMean (rotated root i)))
 
 -- one more of the chroma's squares
 abbrev pub chromaTurn : List Float → Float → ℕ → Float → Float
-chromaTurn chroma mean i sum = add binary32 sum (mul binary32 (distance chroma mean i) (distance chroma mean i))
+chromaTurn chroma mean i sum = add binary32 sum (mul binary32 (deviation chroma mean i) (deviation chroma mean i))
 
 -- one more of the profile's squares
 abbrev pub profileTurn : List Float → ℕ → Float → ℕ → Float → Float
-profileTurn profile root weight i sum = add binary32 sum (mul binary32 (distance profile weight (rotated root i)) (distance profile weight (rotated root i)))
+profileTurn profile root profileMean i sum = add binary32 sum (mul binary32 (deviation profile profileMean (rotated root i)) (deviation profile profileMean (rotated root i)))
 
 -- the three sums, each from +0
 unfoldable pub sumsOf : List Float → List Float → ℕ → Float → Float → Sums
-sumsOf chroma profile root mean weight = record {
-  products = turns (productTurn chroma profile root mean weight) 12 0 plusZero;
-  chroma = turns (chromaTurn chroma mean) 12 0 plusZero;
-  profile = turns (profileTurn profile root weight) 12 0 plusZero;
+sumsOf chroma profile root mean profileMean = record {
+  products = turns (productTurn chroma profile root mean profileMean) 12 0 plusZero;
+  «chroma_energy» = turns (chromaTurn chroma mean) 12 0 plusZero;
+  «profile_energy» = turns (profileTurn profile root profileMean) 12 0 plusZero;
 }
 
 -- the products over the root of both squares, which is held up by epsilon
 unfoldable pub quotientOf : Sums → Float
-quotientOf s = div binary32 (s .products) (maximumNumber (rootOf (mul binary32 (s .chroma) (s .profile))) epsilon)
+quotientOf s = div binary32 (s .products) (maximumNumber (rootOf (mul binary32 (s .«chroma_energy») (s .«profile_energy»))) epsilon)
 
 -- the correlation of a chroma with a profile at a root
 unfoldable pub correlationOf : List Float → List Float → ℕ → Float

@@ -46,11 +46,11 @@ lanesOf away wheel root = turns (lanesTurn away wheel root) 12 0 noLanes
 
 -- a correlation, from its sums
 abbrev pub quotientAt : Float → Float → Float → Float
-quotientAt products chroma profile = quotientOf (record { products = products; chroma = chroma; profile = profile })
+quotientAt products chromaEnergy profileEnergy = quotientOf (record { products = products; «chroma_energy» = chromaEnergy; «profile_energy» = profileEnergy })
 
 -- the correlations at four roots, from their sums
 unfoldable pub quotientsOf : Lanes → Float → Four
-quotientsOf s chroma = four (quotientAt (s .products .first) chroma (s .squares .first)) (quotientAt (s .products .second) chroma (s .squares .second)) (quotientAt (s .products .third) chroma (s .squares .third)) (quotientAt (s .products .fourth) chroma (s .squares .fourth))
+quotientsOf s chromaEnergy = four (quotientAt (s .products .first) chromaEnergy (s .squares .first)) (quotientAt (s .products .second) chromaEnergy (s .squares .second)) (quotientAt (s .products .third) chromaEnergy (s .squares .third)) (quotientAt (s .products .fourth) chromaEnergy (s .squares .fourth))
 
 -- three times four values
 abbrev pub twelve : Four → Four → Four → List Float
@@ -61,8 +61,8 @@ twelve a b c =
 
 -- the correlations from the root up
 abbrev pub quotientsFrom : List Float → Float → List Float → ℕ → Four
-quotientsFrom away chroma wheel root = quotientsOf (lanesOf away wheel root) chroma
+quotientsFrom away chromaEnergy wheel root = quotientsOf (lanesOf away wheel root) chromaEnergy
 
 -- the correlations at all roots
 unfoldable pub turnedOf : List Float → Float → List Float → List Float
-turnedOf away chroma wheel = twelve (quotientsFrom away chroma wheel 0) (quotientsFrom away chroma wheel 4) (quotientsFrom away chroma wheel 8)
+turnedOf away chromaEnergy wheel = twelve (quotientsFrom away chromaEnergy wheel 0) (quotientsFrom away chromaEnergy wheel 4) (quotientsFrom away chromaEnergy wheel 8)

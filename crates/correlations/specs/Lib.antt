@@ -1,3 +1,3 @@
 pub mod Correlation
-pub mod Distances
+pub mod Deviations
 pub mod Lanes

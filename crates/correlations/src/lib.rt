@@ -1,4 +1,4 @@
 // How well a chroma follows a key profile, from each of the twelve roots up.
 pub mod correlation;
-pub mod distances;
+pub mod deviations;
 pub mod lanes;

@@ -7,21 +7,23 @@ use mathlib.Core.Bool.{Bool, true, false, not}
 use lib.IntN.{ℤ}
 use lib.Dec.{T, eqb, eqb→eq, T-not, lit≤}
 use lib.Arith.{lt-of-le-ne}
-use lib.Ieee.{Float, nan, inf, fin, binary32, up, down, le, neg, round, ofInt}
-use lib.Ieee.Fits.{down-pos, eq→eqb}
+use lib.Ieee.{Float, nan, inf, fin, binary32, up, down, fits, le, neg, round, ofInt}
+use lib.Ieee.Fits.{down-pos, eq→eqb, neg-fits, round-fits}
 use lib.Ieee.Exact.{HasValue}
 use lib.Ieee.Order.{le-of-values, transfer}
 use lib.Ieee.Back.{round-whole}
-use Rattle.laws.specs.Values.{plusZero}
+use lib.Ieee.Scale.{finite}
+use Rattle.laws.specs.Values.{negative, plusZero}
 use Rattle.laws.proofs.Cases.{by-test}
-use Rattle.laws.proofs.Signs.{neg-round}
+use Rattle.laws.proofs.Signs.{clear-is, neg-round}
 use Rattle.laws.proofs.Order.{le-refl, le-neg, le-trans as order-trans, apart-le}
 use Rattle.laws.proofs.Nonneg.{le→cross, nonneg→clear}
 use Rattle.laws.proofs.Held.{fitting, value-nonneg}
+use Rattle.laws.proofs.Total.{same-rank}
 use Rattle.floors.specs.Floor.{floored, downTo, isWhole, LargestWhole, FloorIsLargest}
 use Rattle.floors.proofs.Floors.{big-whole}
 
--- ---- a value that is n / 1 is isWhole, and a whole number is such a value
+-- ---- a value that is n / 1 is whole, and a whole number is such a value
 whole-of-value : (r : Float) (s : Bool) (n : ℕ) → HasValue r s n 1 → T (isWhole r)
 whole-of-value nan s n v = absurd v
 whole-of-value (inf t) s n v = absurd v
@@ -38,6 +40,13 @@ unfolding neg
 whole-of-neg nan n v = absurd v
 whole-of-neg (inf t) n v = absurd v
 whole-of-neg (fin t m e) n v = whole-of-value (fin t m e) false n v
+
+-- the sign of what has the plus sign, turned round
+flipped : (z : Float) (a c : ℕ) → HasValue z false a c → negative (neg z) ≡ true
+unfolding neg
+flipped nan a c v = absurd v
+flipped (inf t) a c v = absurd v
+flipped (fin t m e) a c v = ap not (v .0)
 
 by-one : (a b : ℕ) → a ≤ b → a * 1 ≤ b * 1
 by-one a b h = omega arith
@@ -81,8 +90,8 @@ module _ (m : ℕ) (e : ℤ) (few : m < 2 ^ 24) (part : T (not (eqb (m * up e % 
         let under : p * down e ≤ m * up e * 1 = transfer p (m * up e) 1 (down e) (n * up d) (m * up e) (down d) (down e) (down-pos d) (down-pos e) (sym (vy .1)) refl (le→cross y extent tt tt h) in
         le-of-values y r p 1 q 1 (lit≤ tt) (lit≤ tt) vy v (by-one p q (le-div-iff-mul-le (down-pos e) .1 (le-trans under (le-of-eq (mul-one (m * up e))))))
 
-    plus-sign : LargestWhole extent r
-    plus-sign = record { is-whole = whole-of-value r false q v; not-above = plus-not-above; largest = plus-largest }
+    plus-sign : T (fits binary32 r) → LargestWhole extent r
+    plus-sign h = record { held = h; is-whole = whole-of-value r false q v; not-above = plus-not-above; largest = plus-largest; sign = clear-is r (nonneg→clear r (value-nonneg r q 1 v)) .1 }
 
   -- ---- the minus sign: -(q + 1), whose size is z
   module _ (z : Float) (v : HasValue z false (suc q) 1) where
@@ -108,24 +117,35 @@ module _ (m : ℕ) (e : ℤ) (few : m < 2 ^ 24) (part : T (not (eqb (m * up e % 
         let more : q < p = lt-of-mul-lt-mul-right (down e) (lt-of-lt-of-le between (le-trans (le-of-eq (sym (mul-one (m * up e)))) over)) in
         le-neg z y (le-of-values z y (suc q) 1 p 1 (lit≤ tt) (lit≤ tt) v vy (by-one (suc q) p more))
 
-    minus-sign : LargestWhole (neg extent) (neg z)
-    minus-sign = record { is-whole = whole-of-neg z (suc q) v; not-above = le-neg extent z size-under; largest = minus-largest }
+    minus-sign : T (fits binary32 z) → LargestWhole (neg extent) (neg z)
+    unfolding neg
+    minus-sign h = record { held = neg-fits binary32 z h; is-whole = whole-of-neg z (suc q) v; not-above = le-neg extent z size-under; largest = minus-largest; sign = flipped z (suc q) 1 v }
 
 -- ---- the theorem
-pub floor-is-largest : FloorIsLargest
+floor-largest : (x : Float) → T (fits binary32 x) → T (finite x) → LargestWhole x (floored x)
 unfolding floored ofInt neg
-floor-is-largest nan h f = absurd f
-floor-is-largest (inf s) h f = absurd f
-floor-is-largest (fin s m e) h f =
+floor-largest nan h f = absurd f
+floor-largest (inf s) h f = absurd f
+floor-largest (fin s m e) h f =
     by-test (LargestWhole (fin s m e)) (eqb (m * up e % down e) 0)
-    (λ w. record { is-whole = w; not-above = le-refl (fin s m e) tt; largest = λ y k l. l })
+    (λ w. record { held = h; is-whole = w; not-above = le-refl (fin s m e) tt; largest = λ y k l. l; sign = refl })
     (λ n. by-sign s n)
   where
     by-sign : (t : Bool) → T (not (eqb (m * up e % down e) 0)) → LargestWhole (fin t m e) (ofInt binary32 (downTo t (m * up e / down e)))
     by-sign false n =
         let few = fitting binary32 s m e h .few in
-        plus-sign m e few n _ (exact m e few n false (m * up e / down e) (le-of-lt (below-limit m e few n)))
+        let q = m * up e / down e in
+        plus-sign m e few n _ (exact m e few n false q (le-of-lt (below-limit m e few n))) (round-fits binary32 false q 1)
     by-sign true n =
         let few = fitting binary32 s m e h .few in
         let k = suc (m * up e / down e) in
-        subst (LargestWhole (fin true m e)) (neg-round binary32 k 1) (minus-sign m e few n (round binary32 false k 1) (exact m e few n false k (below-limit m e few n)))
+        subst (LargestWhole (fin true m e)) (neg-round binary32 k 1) (minus-sign m e few n (round binary32 false k 1) (exact m e few n false k (below-limit m e few n)) (round-fits binary32 false k 1))
+
+-- of two such values neither is above the other, and they have one sign
+pub floor-is-largest : FloorIsLargest
+floor-is-largest x h f =
+    let l = floor-largest x h f in
+    record {
+      largest-whole = l;
+      only = λ s p. same-rank binary32 s (floored x) (p .held) (l .held) (p .sign ∙ sym (l .sign)) (l .largest s (p .is-whole) (p .not-above)) (p .largest (floored x) (l .is-whole) (l .not-above));
+    }

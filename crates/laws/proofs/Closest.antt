@@ -1,8 +1,8 @@
 -- Rounding a fraction to the nearest whole number, by its remainder or by its bounds, and `round` at a fraction whose leading digit is known.
-use Prim.Native.Nat.{ℕ, suc, _+_, _-_, _*_, _/_, _%_, _^_, _≤_, _<_, compare, Ordering, Ordering·lt, Ordering·eq, Ordering·gt}
+use Prim.Native.Nat.{ℕ, zero, suc, _+_, _-_, _*_, _/_, _%_, _^_, _≤_, _<_, compare, Ordering, Ordering·lt, Ordering·eq, Ordering·gt}
 use mathlib.Core.Path.{_≡_, refl, sym, ap, subst, _∙_}
 use mathlib.Core.Bool.{not, false}
-use native.Mathlib.Nat.{mod-eq-of-lt, div-eq-of-lt, le-antisymm, le-of-suc-le-suc, not-le-of-lt, lt-of-mul-lt-mul-right, suc-mul, mod-lt, div-add-mod'}
+use native.Mathlib.Nat.{mod-eq-of-lt, div-eq-of-lt, le-antisymm, le-of-suc-le-suc, not-le-of-lt, lt-of-mul-lt-mul-right, suc-mul, mod-lt, div-add-mod', add-zero, add-mul, one-mul}
 use native.Mathlib.Omega.{arith}
 use lib.Arith.{lt-of-le-ne}
 use lib.Dec.{T, isLe, isEq, eqb, leb→le, nleb→lt, eqb→eq, eqb-refl}
@@ -91,6 +91,33 @@ pub closest-is : (a b r : ℕ) → 0 < b → r * b * 2 < a * 2 + b → a * 2 < r
 closest-is a b r B lo hi =
     let e : a / b * b + a % b ≡ a = div-add-mod' a b in
     nearest-is b r (a / b) (a % b) (mod-lt a B) (rw e lo) (rw e hi) (compare (a % b * 2) b) (compared (a % b * 2) b)
+
+-- ---- how near it is: within a half, and even where it is just a half away
+pub record Near (n u q : ℕ) : Type 0 where
+  pub lower : q * u * 2 ≤ n * 2 + u
+  pub upper : n * 2 ≤ q * u * 2 + u
+  pub lower-even : q * u * 2 ≡ n * 2 + u → q % 2 ≡ 0
+  pub upper-even : n * 2 ≡ q * u * 2 + u → q % 2 ≡ 0
+
+-- w is the whole part, and t / u the rest
+module _ (n u w t : ℕ) (U : 0 < u) (h : w * u + t ≡ n) where
+  tie-near : (z : ℕ) → t * 2 ≡ u → w % 2 ≡ z → Near n u (w + z)
+  tie-near zero c e = rw add-zero (record { lower = omega arith; upper = omega arith; lower-even = λ _. e; upper-even = λ _. e })
+  tie-near (suc zero) c e =
+      let s : (w + 1) * u ≡ w * u + u = add-mul w 1 u ∙ ap (λ (x : ℕ). w * u + x) (one-mul u) in
+      let even : (w + 1) % 2 ≡ 0 = omega arith in
+      record { lower = omega arith; upper = omega arith; lower-even = λ _. even; upper-even = λ _. even }
+  tie-near (suc (suc z)) c e = absurd (omega arith)
+
+  near-by : (o : Ordering) → Compared o (t * 2) u → t < u → Near n u (nearest w o)
+  near-by Ordering·lt c r = record { lower = omega arith; upper = omega arith; lower-even = λ (e : w * u * 2 ≡ n * 2 + u). absurd (omega arith); upper-even = λ (e : n * 2 ≡ w * u * 2 + u). absurd (omega arith) }
+  near-by Ordering·eq c r = tie-near (w % 2) c refl
+  near-by Ordering·gt c r =
+      let s = suc-mul w u in
+      record { lower = omega arith; upper = omega arith; lower-even = λ (e : suc w * u * 2 ≡ n * 2 + u). absurd (omega arith); upper-even = λ (e : n * 2 ≡ suc w * u * 2 + u). absurd (omega arith) }
+
+pub closest-near : (n u : ℕ) → 0 < u → Near n u (closest n u)
+closest-near n u U = near-by n u (n / u) (n % u) U (div-add-mod' n u) (compare (n % u * 2) u) (compared (n % u * 2) u) (mod-lt n U)
 
 -- ---- `round` at a fraction of 24 + k digits before the point, in units of 2 ^ -149: it drops k of them
 pub round-at : (a c k r : ℕ) → 2 ^ (k + 23) ≤ a * 2 ^ 149 / c → a * 2 ^ 149 / c < 2 ^ suc (k + 23) → closest (a * 2 ^ 149) (c * 2 ^ k) ≡ r → round binary32 false a c ≡ units binary32 false r k

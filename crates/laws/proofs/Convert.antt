@@ -7,21 +7,22 @@ use native.Mathlib.Omega.{arith}
 use mathlib.Core.Bool.{true, false}
 use lib.Dec.{T}
 use lib.Ieee.{Float, nan, inf, fin, Format, up, down, isNan, fits, le, neg, round}
-use lib.Ieee.Fits.{round-fits, down-pos, nan-fits, inf-fits, neg-fits}
+use lib.Ieee.Fits.{down-pos, nan-fits, inf-fits, neg-fits}
 use lib.Ieee.Positive.{num, den}
 use Rattle.laws.specs.Values.{negative, clear, nonneg, plusZero, minusZero, Held}
-use Rattle.laws.specs.Convert.{converted, Conversion}
-use Rattle.laws.proofs.Signs.{kind, ordered-of, clear-is, negative-is, neg-round, neg-neg, neg-clear}
+use Rattle.laws.specs.Convert.{converted}
+use Rattle.laws.proofs.Signs.{kind, neg-round, neg-neg, neg-clear}
 use Rattle.laws.proofs.Order.{le-neg, le-trans, le-left, le-right, apart-le}
 use Rattle.laws.proofs.Nonneg.{Rounds, rounds-mono, rounds-clear, both-finite, greatest, le→cross, nonneg-under}
 use Rattle.laws.proofs.Held.{held-rounds, rounds-back}
+use Rattle.laws.proofs.Nearest.{conversion}
 use Rattle.laws.proofs.Zero.{plusZero-held, plusZero-least}
 
 pub convert-fits : (f : Format) (x : Float) → T (fits f (converted f x))
 unfolding converted
 convert-fits f nan = nan-fits f
 convert-fits f (inf s) = inf-fits f s
-convert-fits f (fin s m e) = round-fits f s (m * up e) (down e)
+convert-fits f (fin s m e) = conversion f .rounds (fin s m e) tt .held
 
 -- the sign is kept
 pub convert-neg : (f : Format) (x : Float) → converted f (neg x) ≡ neg (converted f x)
@@ -74,31 +75,22 @@ module _ (f : Format) where
       subst₂ (λ (a b : Float). T (le a b)) (sym (zero-converted f x p below)) (sym y-is) (unfold le in tt)
 
   negative-kept : (x : Float) → T (negative x) → T (negative (converted f x))
-  unfolding converted
   negative-kept nan n = absurd n
-  negative-kept (inf s) n = n
-  negative-kept (fin false m e) n = absurd n
-  negative-kept (fin true m e) n = subst (λ (z : Float). T (negative z)) (neg-round f (m * up e) (down e)) (flipped (round f false (m * up e) (down e)) (convert-clear f (fin false m e) tt))
-    where
-      flipped : (z : Float) → T (clear z) → T (negative (neg z))
-      flipped nan c = absurd c
-      flipped (inf true) c = absurd c
-      flipped (inf false) c = unfold neg in tt
-      flipped (fin true m e) c = absurd c
-      flipped (fin false m e) c = unfold neg in tt
+  negative-kept (inf s) n = unfold converted in n
+  negative-kept (fin s m e) n = subst T (sym (conversion f .rounds (fin s m e) tt .sign)) n
 
   pub convert-number : (x : Float) → isNan x ≡ false → isNan (converted f x) ≡ false
-  convert-number x n = elim (kind x) [
-    | inl e ↦ absurd (rw e at (ordered-of x n))
-    | inr k ↦ elim k [ inl c ↦ clear-is (converted f x) (convert-clear f x c) .0 | inr m ↦ negative-is (converted f x) (negative-kept x m) .0 ]
-  ]
+  convert-number nan n = unfold converted in n
+  convert-number (inf s) n = unfold converted in n
+  convert-number (fin s m e) n = conversion f .rounds (fin s m e) tt .number
 
   negative-mono : (x y : Float) → T (negative x) → T (negative y) → T (le x y) → T (le (converted f x) (converted f y))
   negative-mono x y p q h =
       subst₂ (λ (a b : Float). T (le a b)) (ap neg (convert-neg f x) ∙ neg-neg (converted f x)) (ap neg (convert-neg f y) ∙ neg-neg (converted f y))
       (le-neg (converted f (neg y)) (converted f (neg x)) (clear-mono f (neg y) (neg x) (neg-clear y q) (neg-clear x p) (le-neg x y h)))
 
-  convert-mono : (x y : Float) → T (le x y) → T (le (converted f x) (converted f y))
+  -- the order of all numbers is kept
+  pub convert-mono : (x y : Float) → T (le x y) → T (le (converted f x) (converted f y))
   convert-mono x y h = by-kinds (kind x) (kind y)
     where
       by-kinds : (x ≡ nan) ⊎ (T (clear x) ⊎ T (negative x)) → (y ≡ nan) ⊎ (T (clear y) ⊎ T (negative y)) → T (le (converted f x) (converted f y))
@@ -113,13 +105,10 @@ module _ (f : Format) where
   held-kept : (x : Float) → Held f x → converted f x ≡ x
   held-kept x h = convert-rounds f x (h .at-least-zero) .is ∙ sym (held-rounds f x h .is)
 
-  convert-keeps : (x : Float) → T (fits f x) → converted f x ≡ x
+  pub convert-keeps : (x : Float) → T (fits f x) → converted f x ≡ x
   unfolding neg
   convert-keeps nan h = unfold converted in refl
   convert-keeps (inf s) h = unfold converted in refl
   convert-keeps (fin false m e) h = held-kept (fin false m e) (record { in-format = h; at-least-zero = tt })
   convert-keeps (fin true m e) h =
       convert-neg f (fin false m e) ∙ ap neg (held-kept (fin false m e) (record { in-format = neg-fits f (fin true m e) h; at-least-zero = tt }))
-
-pub conversion : Conversion
-conversion f = record { monotone = convert-mono f; keeps = convert-keeps f }

@@ -15,10 +15,12 @@ pub mod Order
 pub mod Nonneg
 pub mod Held
 pub mod Zero
+pub mod Total
+pub mod Grid
+pub mod Nearest
 pub mod Convert
 pub mod Middle
 pub mod Pick
 pub mod Parts
 pub mod Cuts
-pub mod Total
 pub mod Swap

@@ -212,7 +212,7 @@ sub-clear f x y p q h = rounds-clear (sub-rounds f x y p q h)
 less : (p q r s : ℕ) → p ≤ r → s ≤ q → p - q ≤ r - s
 less p q r s h k = omega arith
 
-sub-mul : (a b k : ℕ) → (a - b) * k ≡ a * k - b * k
+pub sub-mul : (a b k : ℕ) → (a - b) * k ≡ a * k - b * k
 sub-mul a b k = mul-comm (a - b) k ∙ mul-sub k a b ∙ ap (λ (z : ℕ). z - k * b) (mul-comm k a) ∙ ap (λ (z : ℕ). a * k - z) (mul-comm k b)
 
 shrink : (a p c q b r d s : ℕ) → a * q ≤ c * p → d * r ≤ b * s → (a * r - b * p) * (q * s) ≤ (c * s - d * q) * (p * r)

@@ -42,7 +42,7 @@ unscale k true a false b K h = omega arith
 unscale k true a true b K h = le-of-mul-le-mul-right h K
 
 -- ---- `below` and `level` say `Under`
-or-split : (a b : Bool) → T (a || b) → T a ⊎ T b
+pub or-split : (a b : Bool) → T (a || b) → T a ⊎ T b
 or-split true b t = inl tt
 or-split false b t = inr t
 

@@ -4,7 +4,7 @@ use mathlib.Core.Logic.{_⊎_, inl, inr, _↔_}
 use Prim.Native.Nat.{ℕ, _+_, _-_, _*_, _^_, _≤_, _<_}
 use native.Mathlib.Nat.{le-refl, le-antisymm, le-trans, le-of-eq, le-of-lt, lt-of-lt-of-le, lt-of-le-of-lt, not-le-of-lt, lt-irrefl, mul-right-comm, mul-le-mul-right, mul-comm, mul-lt-mul-of-pos-right, div-lt-iff-lt-mul, zero-add}
 use native.Mathlib.Omega.{arith}
-use mathlib.Core.Bool.{Bool, true, false, cond}
+use mathlib.Core.Bool.{Bool, true, false, not, _||_, cond}
 use lib.IntN.{ℤ}
 use lib.Dec.{T, ltb, leb, not-T, leb→le, le→leb, ltb→lt, lt→ltb, lit<}
 use lib.Arith.{lt-of-le-ne}
@@ -47,7 +47,7 @@ bits-order f x y p q = (forth, back)
     back h = not-le→lt x y (nonneg→ordered x (p .at-least-zero)) (nonneg→ordered y (q .at-least-zero)) (not-T (le y x) (λ (k : T (le y x)). not-le-of-lt h (bits-mono f y x q p k)))
 
 -- ---- the same with the infinity, whose pattern is above every other
-held-lt : (f : Format) (x : Float) → Held f x → toBits f x < ones f * hid f
+pub held-lt : (f : Format) (x : Float) → Held f x → toBits f x < ones f * hid f
 held-lt f x h =
     subst (λ (n : ℕ). n < ones f * hid f) (sym (bits-are f x (h .at-least-zero)))
     (pattern-lt f _
@@ -295,6 +295,19 @@ by-value x y l =
     let below = is-true (lt x y) l in
     let above = is-false (lt y x) (le→not-lt x y (lt→le x y l)) in
     (rw (xn, yn, below), rw (yn, xn, above, below))
+
+-- two values that the format holds, neither above the other and of one sign, are one
+pub same-rank : (f : Format) (x y : Float) → T (fits f x) → T (fits f y) → negative x ≡ negative y → T (le x y) → T (le y x) → x ≡ y
+unfolding totalOrder
+same-rank f x y h k e l g =
+    let xn = ordered-is x (le-left x y l) in
+    let yn = ordered-is y (le-right x y l) in
+    let up = is-false (lt y x) (le→not-lt x y l) in
+    let down = is-false (lt x y) (le→not-lt y x g) in
+    let one-sign : (b : Bool) → T (b || not b) = λ b. elim b [ true ↦ tt | false ↦ tt ] in
+    let forth : T (totalOrder x y) = rw (xn, yn, up, down, e) (one-sign (negative y)) in
+    let back : T (totalOrder y x) = rw (yn, xn, up, down, e) (one-sign (negative y)) in
+    known-by-key f x y h k (le-antisymm (key-le f x y h k forth) (key-le f y x k h back))
 
 pub total-order : TotalOrder
 total-order f = record {

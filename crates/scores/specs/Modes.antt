@@ -5,13 +5,13 @@ use lib.Ieee.{Float}
 use Rattle.laws.specs.Turns.{turns}
 use Rattle.laws.specs.Values.{plusZero}
 use Rattle.numbers.specs.Sum.{addedEach}
-use Rattle.correlations.specs.Distances.{wheelOf}
+use Rattle.correlations.specs.Deviations.{wheelOf}
 use Rattle.correlations.specs.Lanes.{alike, twelve, turnedOf}
 use Rattle.scores.specs.Profiles.{profileAt}
 
 -- profile p of the mode
 unfoldable pub modeTurn : List Float → Float → ℕ → ℕ → List Float → List Float
-modeTurn away chroma mode p sums = addedEach sums (turnedOf away chroma (wheelOf (profileAt (2 * p + mode))))
+modeTurn away chromaEnergy mode p sums = addedEach sums (turnedOf away chromaEnergy (wheelOf (profileAt (2 * p + mode))))
 
 -- twelve sums of nothing
 abbrev pub noSums : List Float
@@ -19,4 +19,4 @@ noSums = twelve (alike plusZero) (alike plusZero) (alike plusZero)
 
 -- the correlations with the four profiles of a mode together, by root
 unfoldable pub modeSums : List Float → Float → ℕ → List Float
-modeSums away chroma mode = turns (modeTurn away chroma mode) 4 0 noSums
+modeSums away chromaEnergy mode = turns (modeTurn away chromaEnergy mode) 4 0 noSums

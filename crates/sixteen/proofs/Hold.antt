@@ -29,8 +29,9 @@ use Rattle.bits.specs.Bits.{bitsOf, numberOf, bytesCut}
 use Rattle.card_writer.specs.Form.{segmentsBits, cardBytes}
 use Rattle.card.specs.Rules.{headerBroken, segmentBroken, cardBroken}
 use Rattle.card_judge.specs.Analysed.{unequal, unwritable}
+use Rattle.answers.specs.Answer.{keyless}
 use Rattle.sixteen.specs.Rows.{rowA, rowB, rowC, rowD, rowE, rowF, rowG, rowH, rowI, rowJ, rowK, rowL, rowM, rowN, rowO, rowP, rows, RowsHold}
 
 pub rows-hold : RowsHold
-unfolding rows rowA rowB rowC rowD rowE rowF rowG rowH rowI rowJ rowK rowL rowM rowN rowO rowP first firstMet leaderTurn leaderOf totalOrder converted minimumNumber seconds short joined countOf majorityOf splits grouped groupOf cutTurn groupsOf firstShort keeper joinAt unsettled joinShort shorten shortenedOf heard lasting totalOf numberAt lastsIn secondsTurn secondsOf rivals rivalOf coverageOf lacks alternateOf le bitsOf numberOf bytesCut segmentsBits cardBytes headerBroken segmentBroken cardBroken unequal unwritable classOf blended readAt shifted floored ofInt toSigned every isNan lt eq add sub mul div neg toBits ofBits turns list magnitudeOf maximumNumber clampedTo sumOf wholeRoot doubledRoot rootOfUnits rootOf tonics profiles profileAt sumsOf quotientOf correlationOf scoreOf scoresOf placed candidateAt placesOf louder chosenKey confidenceOf classifiedOf
+unfolding rows rowA rowB rowC rowD rowE rowF rowG rowH rowI rowJ rowK rowL rowM rowN rowO rowP first firstMet leaderTurn leaderOf totalOrder converted minimumNumber seconds short joined countOf majorityOf splits grouped groupOf cutTurn groupsOf firstShort keeper joinAt unsettled joinShort shorten shortenedOf heard lasting totalOf numberAt lastsIn secondsTurn secondsOf rivals rivalOf coverageOf lacks alternateOf le bitsOf numberOf bytesCut segmentsBits cardBytes headerBroken segmentBroken cardBroken unequal unwritable keyless classOf blended readAt shifted floored ofInt toSigned every isNan lt eq add sub mul div neg toBits ofBits turns list magnitudeOf maximumNumber clampedTo sumOf wholeRoot doubledRoot rootOfUnits rootOf tonics profiles profileAt sumsOf quotientOf correlationOf scoreOf scoresOf placed candidateAt placesOf louder chosenKey confidenceOf classifiedOf
 rows-hold = tt

@@ -11,7 +11,7 @@ use Rattle.laws.specs.Values.{plusZero, one, aHalf}
 use Rattle.keys.specs.Numbers.{keyNumber, keyAt, sameKey}
 use Rattle.timeline.specs.declared.estimate.Estimate.{Estimate}
 use Rattle.timeline.specs.declared.segment.Segment.{Segment}
-use Rattle.timeline.specs.Segments.{segment, emptied}
+use Rattle.timeline.specs.Segments.{segment, emptied, segmentRows}
 use Rattle.majorities.specs.Majority.{majorityOf}
 use Rattle.groups.specs.Groups.{groupsOf}
 use Rattle.shortening.specs.Shorten.{shortenedOf}
@@ -22,6 +22,8 @@ use Rattle.card.specs.Layout.{layout1}
 use Rattle.card_writer.specs.Form.{cardBytes}
 use Rattle.card.specs.Rules.{noKey}
 use Rattle.card_judge.specs.Analysed.{Analysis, analysis, meaningOf, unwritable}
+use Rattle.card_call.specs.Answered.{cardOfAnswer}
+use Rattle.answers.specs.Answer.{keyless}
 use Rattle.key_choice.specs.declared.classify.Classified.{Classified}
 use Rattle.key_choice.specs.Classify.{confidenceOf, classifiedOf}
 
@@ -148,9 +150,12 @@ unfoldable pub rowL : Row
 rowL = record { letter = 108; holds = every (λ (k : ℕ). eqb (toBits binary32 (getD (shiftedOf onlyB aHalf) k nan)) (getD halves k 1)) 12 }
 
 -- ---- m and n: what a chroma of twelve equal values tells
--- each score and the confidence pass a test, and the key is number 0
+-- there are 24 scores, each of them and the confidence pass a test, and the key is number 0
 abbrev pub tells : (Float → Bool) → Classified → Bool
-tells test c = every (λ (k : ℕ). test (getD (c .scores) k nan)) 24 && eqb (keyNumber (c .key)) 0 && test (confidenceOf (c .best) (c .second))
+tells test c =
+    eqb (length (c .scores)) 24 && every (λ (k : ℕ). test (getD (c .scores) k nan)) 24
+    && eqb (keyNumber (c .key)) 0
+    && test (confidenceOf (c .best) (c .second))
 
 -- +0, told from -0 by its pattern
 abbrev pub isPlusZero : Float → Bool
@@ -183,9 +188,9 @@ aMinor =
 unfoldable pub rowO : Row
 rowO = record { letter = 111; holds = writes aMinor (0x1a ∷ 0xd7 ∷ 0x00 ∷ 0x03 ∷ 0xe8 ∷ 0x00 ∷ 0x81 ∷ 0x5f ∷ 0x90 ∷ 0x55 ∷ 0xf4 ∷ []) }
 
--- the empty analysis: no key, zeros, no segments
+-- the empty analysis: the answer without a refusal, a key or a row
 abbrev pub emptyAnalysis : Analysis
-emptyAnalysis = analysis (record { key = noKey; dsp = noKey; alternate = noKey; coverage = plusZero; confidence = plusZero }) [] [] [] []
+emptyAnalysis = cardOfAnswer (keyless 0 0 0 0) (segmentRows [] [] [] [])
 
 -- its card
 unfoldable pub rowP : Row

@@ -14,8 +14,8 @@ Inv-loop chroma squares sums scores₀ k₀ scores k = (k ≤ 24) × Filled (qua
 abbrev μ-loop : tie.MeasureT-loop
 μ-loop chroma squares sums scores₀ k₀ scores k = 24 - k
 
-distances-requires : tie.Need-distances-requires Inv-loop μ-loop
-distances-requires c κs = search needs
+deviations-requires : tie.Need-deviations-requires Inv-loop μ-loop
+deviations-requires c κs = search needs
 
 energy-requires : tie.Need-energy-requires Inv-loop μ-loop
 energy-requires c κs = search needs
@@ -63,7 +63,7 @@ returns c =
     let squares = major .before .before in
     let away = squares .before .before in
     filled-whole _ _ _ (c .before .loop .k) 24 (c .before .loop .inv .1) (omega arith) refl
-    ∙ scored (away .before .args .chroma .now) (away .distances .ensures) (squares .energy .ensures) (major .sum-mode .ensures) (minor .sum-mode2 .ensures)
+    ∙ scored (away .before .args .chroma .now) (away .deviations .ensures) (squares .energy .ensures) (major .sum-mode .ensures) (minor .sum-mode2 .ensures)
 
 pub score-keys-spec : {M : Type 1} → statement M
 score-keys-spec =
@@ -71,7 +71,7 @@ score-keys-spec =
     (tie.spec
     Inv-loop
     μ-loop
-    distances-requires
+    deviations-requires
     energy-requires
     sum-mode-requires
     sum-mode-requires-2

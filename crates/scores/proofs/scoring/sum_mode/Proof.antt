@@ -11,10 +11,10 @@ use Rattle.scores.proofs.scoring.sum_mode.Statement.{statement}
 use Rattle.scores.proofs.scoring.sum_mode.Tie as tie
 
 abbrev Inv-loop : tie.InvT-loop
-Inv-loop away chroma mode sums₀ p₀ sums p = (p ≤ 4) × (turns (modeTurn away chroma mode) (4 - p) p sums ≡ modeSums away chroma mode)
+Inv-loop away energy mode sums₀ p₀ sums p = (p ≤ 4) × (turns (modeTurn away energy mode) (4 - p) p sums ≡ modeSums away energy mode)
 
 abbrev μ-loop : tie.MeasureT-loop
-μ-loop away chroma mode sums₀ p₀ sums p = 4 - p
+μ-loop away energy mode sums₀ p₀ sums p = 4 - p
 
 loop-holds : tie.Need-loop-holds Inv-loop μ-loop
 unfolding ofBits modeSums
@@ -44,8 +44,11 @@ loop-less c = search needs
 loop-again : tie.Need-loop-again Inv-loop μ-loop
 unfolding modeTurn
 loop-again c =
-    let turn = c .before .before .before .before .before .before .before in
-    (omega arith, turns-again _ 4 (turn .loop .p) (turn .loop .inv .1) (c .before .before .before .before .before .before .loop-test .taken) cc)
+    let turn = c .before .before .before .before .before .before .before in (
+      omega arith,
+      turns-again _ 4 (turn .loop .p) (turn .loop .inv .1) (c .before .before .before .before .before .before .loop-test .taken)
+          (rw (c .add-twelve .ensures, c .before .before .before .correlations .ensures, c .before .before .before .before .before .wheel-at .ensures)),
+    )
 
 returns : tie.Need-returns Inv-loop μ-loop
 returns c = turns-end _ 4 (c .before .loop .p) (c .before .loop .inv .1) (c .loop-test .left)

@@ -1,11 +1,11 @@
-// Distances of twelve values from their mean, what all correlations with them share.
+// Deviations of twelve values from their mean, what all correlations with them share.
 ghost use mathlib.Core.Path.{_≡_};
-ghost use Rattle.correlations.specs.Distances.{distancesOf, energyOf, wheelOf};
+ghost use Rattle.correlations.specs.Deviations.{deviationsOf, deviationEnergy, wheelOf};
 use numbers::twelve::sum_of_twelve;
 
-// The distances from the mean.
-pub fn distances(values: &[f32; 12]) -> [f32; 12]
-    ensures { λ r. ⌜ r ≡ distancesOf (now (values .entry)) ⌝ }
+// The deviations from the mean.
+pub fn deviations(values: &[f32; 12]) -> [f32; 12]
+    ensures { λ r. ⌜ r ≡ deviationsOf (now (values .entry)) ⌝ }
 {
     let mean = sum_of_twelve(values) / 12.0;
     let mut away = [0.0; 12];
@@ -17,9 +17,9 @@ pub fn distances(values: &[f32; 12]) -> [f32; 12]
     away
 }
 
-// The sum of the distances' squares.
+// The sum of the deviations' squares.
 pub fn energy(away: &[f32; 12]) -> f32
-    ensures { λ r. ⌜ r ≡ energyOf (now (away .entry)) ⌝ }
+    ensures { λ r. ⌜ r ≡ deviationEnergy (now (away .entry)) ⌝ }
 {
     let mut sum = 0.0;
     let mut i = 0;
@@ -30,11 +30,11 @@ pub fn energy(away: &[f32; 12]) -> f32
     sum
 }
 
-// The distances from the last value down to the first, and down again: each rotation in one piece.
+// The deviations from the last value down to the first, and down again: each rotation in one piece.
 pub fn wheel(values: &[f32; 12]) -> [f32; 23]
     ensures { λ r. ⌜ r ≡ wheelOf (now (values .entry)) ⌝ }
 {
-    let away = distances(values);
+    let away = deviations(values);
     let mut wheel = [0.0; 23];
     let mut j = 0;
     while j < 23 {

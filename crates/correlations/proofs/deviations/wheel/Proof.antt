@@ -1,4 +1,4 @@
--- The array is written from the front, a distance a turn.
+-- The array is written from the front, a deviation a turn.
 use borrow.Author.Needs.{needs}
 use mathlib.Core.Path.{refl, ap, _∙_}
 use native.Mathlib.Omega.{arith}
@@ -8,9 +8,9 @@ use lib.ListN.{getD}
 use lib.Ieee.{Float, nan}
 use Rattle.laws.specs.Front.{list}
 use Rattle.laws.proofs.Front.{Filled, filled-start, filled-more, filled-whole}
-use Rattle.correlations.specs.Distances.{backward, wheelOf}
-use Rattle.correlations.proofs.distances.wheel.Statement.{statement}
-use Rattle.correlations.proofs.distances.wheel.Tie as tie
+use Rattle.correlations.specs.Deviations.{backward, wheelOf}
+use Rattle.correlations.proofs.deviations.wheel.Statement.{statement}
+use Rattle.correlations.proofs.deviations.wheel.Tie as tie
 
 abbrev Inv-loop : tie.InvT-loop
 Inv-loop values away wheel₀ j₀ wheel j = (j ≤ 23) × Filled (λ (k : ℕ). getD away (backward k) nan) wheel₀ wheel j
@@ -18,8 +18,8 @@ Inv-loop values away wheel₀ j₀ wheel j = (j ≤ 23) × Filled (λ (k : ℕ).
 abbrev μ-loop : tie.MeasureT-loop
 μ-loop values away wheel₀ j₀ wheel j = 23 - j
 
-distances-requires : tie.Need-distances-requires Inv-loop μ-loop
-distances-requires c κs = search needs
+deviations-requires : tie.Need-deviations-requires Inv-loop μ-loop
+deviations-requires c κs = search needs
 
 loop-holds : tie.Need-loop-holds Inv-loop μ-loop
 loop-holds c = (omega arith, filled-start _ _)
@@ -52,7 +52,7 @@ returns : tie.Need-returns Inv-loop μ-loop
 unfolding wheelOf
 returns c =
     filled-whole _ _ _ (c .before .loop .j) 23 (c .before .loop .inv .1) (omega arith) refl
-    ∙ ap (λ (away : List Float). list (λ (k : ℕ). getD away (backward k) nan) 23) (c .before .before .distances .ensures)
+    ∙ ap (λ (away : List Float). list (λ (k : ℕ). getD away (backward k) nan) 23) (c .before .before .deviations .ensures)
 
 pub wheel-spec : {M : Type 1} → statement M
 wheel-spec =
@@ -60,7 +60,7 @@ wheel-spec =
     (tie.spec
     Inv-loop
     μ-loop
-    distances-requires
+    deviations-requires
     loop-holds
     sub-wheel
     mul-wheel

@@ -1,4 +1,4 @@
--- The array is written from the front, a distance a turn.
+-- The array is written from the front, a deviation a turn.
 use borrow.Author.Needs.{needs}
 use mathlib.Core.Path.{refl, ap, _∙_}
 use native.Mathlib.Omega.{arith}
@@ -6,13 +6,13 @@ use Prim.Native.Nat.{_≤_, _-_}
 use lib.Ieee.{Float, binary32, ofBits, div}
 use Rattle.laws.specs.Front.{list}
 use Rattle.laws.proofs.Front.{Filled, filled-start, filled-more, filled-whole}
-use Rattle.correlations.specs.Correlation.{distance}
-use Rattle.correlations.specs.Distances.{distancesOf}
-use Rattle.correlations.proofs.distances.distances.Statement.{statement}
-use Rattle.correlations.proofs.distances.distances.Tie as tie
+use Rattle.correlations.specs.Correlation.{deviation}
+use Rattle.correlations.specs.Deviations.{deviationsOf}
+use Rattle.correlations.proofs.deviations.deviations.Statement.{statement}
+use Rattle.correlations.proofs.deviations.deviations.Tie as tie
 
 abbrev Inv-loop : tie.InvT-loop
-Inv-loop values mean away₀ i₀ away i = (i ≤ 12) × Filled (distance values mean) away₀ away i
+Inv-loop values mean away₀ i₀ away i = (i ≤ 12) × Filled (deviation values mean) away₀ away i
 
 abbrev μ-loop : tie.MeasureT-loop
 μ-loop values mean away₀ i₀ away i = 12 - i
@@ -45,14 +45,14 @@ loop-again : tie.Need-loop-again Inv-loop μ-loop
 loop-again c = (omega arith, filled-more _ _ _ (c .before .before .loop .i) (c .before .before .loop .inv .1) (omega arith))
 
 returns : tie.Need-returns Inv-loop μ-loop
-unfolding distancesOf
+unfolding deviationsOf
 returns c =
     let values = c .before .before .before .args .values .now in
     filled-whole _ _ _ (c .before .loop .i) 12 (c .before .loop .inv .1) (omega arith) refl
-    ∙ ap (λ (sum : Float). list (distance values (div binary32 sum (ofBits binary32 0x4140_0000))) 12) (c .before .before .sum-of-twelve .ensures)
+    ∙ ap (λ (sum : Float). list (deviation values (div binary32 sum (ofBits binary32 0x4140_0000))) 12) (c .before .before .sum-of-twelve .ensures)
 
-pub distances-spec : {M : Type 1} → statement M
-distances-spec =
+pub deviations-spec : {M : Type 1} → statement M
+deviations-spec =
     tie.close
     (tie.spec
     Inv-loop

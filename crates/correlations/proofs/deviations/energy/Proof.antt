@@ -6,18 +6,18 @@ use Prim.Native.Nat.{_≤_, _-_}
 use lib.Ieee.{ofBits}
 use Rattle.laws.specs.Turns.{turns}
 use Rattle.laws.proofs.Turns.{turns-start, turns-again, turns-end}
-use Rattle.correlations.specs.Distances.{energyTurn, energyOf}
-use Rattle.correlations.proofs.distances.energy.Statement.{statement}
-use Rattle.correlations.proofs.distances.energy.Tie as tie
+use Rattle.correlations.specs.Deviations.{deviationEnergyTurn, deviationEnergy}
+use Rattle.correlations.proofs.deviations.energy.Statement.{statement}
+use Rattle.correlations.proofs.deviations.energy.Tie as tie
 
 abbrev Inv-loop : tie.InvT-loop
-Inv-loop away sum₀ i₀ sum i = (i ≤ 12) × (turns (energyTurn away) (12 - i) i sum ≡ energyOf away)
+Inv-loop away sum₀ i₀ sum i = (i ≤ 12) × (turns (deviationEnergyTurn away) (12 - i) i sum ≡ deviationEnergy away)
 
 abbrev μ-loop : tie.MeasureT-loop
 μ-loop away sum₀ i₀ sum i = 12 - i
 
 loop-holds : tie.Need-loop-holds Inv-loop μ-loop
-unfolding ofBits energyOf
+unfolding ofBits deviationEnergy
 loop-holds c = (omega arith, turns-start _ _ _)
 
 mul-sum : tie.Need-mul-sum Inv-loop μ-loop
