@@ -14,7 +14,7 @@ use Rattle.timeline.specs.declared.segment.Segment.{Segment}
 use Rattle.shortening.specs.Shorten.{joinAt}
 use Rattle.closing.specs.Closing.{inserted, movedDown}
 use Rattle.closing.proofs.Moves.{length-moved}
-use Rattle.shortening.proofs.Settles.{joinAt-length}
+use Rattle.shortening.proofs.Settles.{joinAt-first, joinAt-more, joinAt-length}
 
 inserted-seam : {A : Type 0} (x : A) (xs rest : List A) → inserted (length xs) x (xs ++ rest) ≡ xs ++ (x ∷ rest)
 unfolding inserted
@@ -40,13 +40,13 @@ module _ {A : Type 0} (f : Segment → A) where
   read-front (s ∷ left) rest (suc k) d h = read-front left rest k d (le-of-suc-le-suc h)
 
   join-front : (p : ℕ) (left : List Segment) (rest : List A) (x : A) → suc p < length left → movedDown (suc p) (length left) x (set (map f left ++ rest) p (f (joined (segmentAt left p) (segmentAt left (suc p))))) ≡ map f (joinAt p left) ++ (x ∷ rest)
-  unfolding movedDown joinAt
+  unfolding movedDown
   join-front zero [] rest x h = absurd (not-suc-le-zero h)
   join-front zero (s ∷ []) rest x h = absurd (lt-irrefl 1 h)
   join-front zero (s ∷ t ∷ r) rest x h =
-      ap (λ (l : List A). f (joined s t) ∷ l) (ap (λ (n : ℕ). inserted n x (map f r ++ rest)) (sym (length-map r f)) ∙ inserted-seam x (map f r) rest)
+      rw (joinAt-first s t r) (ap (λ (l : List A). f (joined s t) ∷ l) (ap (λ (n : ℕ). inserted n x (map f r ++ rest)) (sym (length-map r f)) ∙ inserted-seam x (map f r) rest))
   join-front (suc p) [] rest x h = absurd (not-suc-le-zero h)
-  join-front (suc p) (s ∷ r) rest x h = ap (λ (l : List A). f s ∷ l) (join-front p r rest x (le-of-suc-le-suc h))
+  join-front (suc p) (s ∷ r) rest x h = rw (joinAt-more p s r) (ap (λ (l : List A). f s ∷ l) (join-front p r rest x (le-of-suc-le-suc h)))
 
   -- ---- the same of a lent column
   pub column-own : (g : ℕ → Segment) (n : ℕ) (m : List A) (d : A) → n ≤ length m → ((k : ℕ) → k < n → f (g k) ≡ getD m k d) → Column f (padded (n - n) (list g n)) m m

@@ -6,14 +6,15 @@ use native.Mathlib.Nat.{zero-add, le-of-suc-le-suc, not-suc-le-zero, lt-irrefl}
 use native.Mathlib.Omega.{arith}
 use mathlib.Core.Bool.{Bool, true, false, not, cond}
 use mathlib.Core.List.{List, [], _∷_}
-use lib.ListN.{length, length-append, length-replicate}
+use lib.ListN.{length, length-append, length-drop, length-replicate}
+use lib.Seq.{length-take-le}
 use lib.Dec.{T, ltb, eqb, ltb→lt, lt→ltb, nltb→le, T-not, not-T}
 use lib.Ieee.{Float, le}
 use lib.Ieee.Fits.{and-l, and-r, and-i, eq→eqb}
 use lib.Ieee.Bits.{is-false}
 use Rattle.laws.proofs.First.{first-none, first-within}
 use Rattle.laws.proofs.Cases.{by-test}
-use Rattle.timeline.specs.Segments.{seconds, short, segmentAt}
+use Rattle.timeline.specs.Segments.{seconds, short, joined, segmentAt}
 use Rattle.timeline.specs.declared.segment.Segment.{Segment}
 use Rattle.shortening.specs.Shorten.{firstShort, keeper, joinAt, unsettled, joinShort, shorten, shortenedOf, leftIn}
 use Rattle.shortening.specs.Ends.{ShorteningEnds, NoneLeftShort}
@@ -22,14 +23,22 @@ pub firstShort-within : (least : Float) (segments : List Segment) → firstShort
 unfolding firstShort
 firstShort-within least segments = rw (zero-add (length segments)) at (first-within (λ (k : ℕ). short least (segmentAt segments k)) (length segments) 0)
 
+-- ---- a join, segment by segment
+pub joinAt-first : (s t : Segment) (r : List Segment) → joinAt 0 (s ∷ t ∷ r) ≡ joined s t ∷ r
+unfolding joinAt
+joinAt-first s t r = refl
+
+pub joinAt-more : (p : ℕ) (s : Segment) (r : List Segment) → joinAt (suc p) (s ∷ r) ≡ s ∷ joinAt p r
+unfolding joinAt
+joinAt-more p s r =
+    let one : suc p + 1 ≡ suc (p + 1) = omega arith in
+    let two : suc p + 2 ≡ suc (p + 2) = omega arith in
+    rw (one, two)
+
 -- ---- a join takes one segment away
 pub joinAt-length : (p : ℕ) (segments : List Segment) → suc p < length segments → suc (length (joinAt p segments)) ≡ length segments
 unfolding joinAt
-joinAt-length zero [] h = absurd (not-suc-le-zero h)
-joinAt-length zero (s ∷ []) h = absurd (lt-irrefl 1 h)
-joinAt-length zero (s ∷ t ∷ r) h = refl
-joinAt-length (suc p) [] h = absurd (not-suc-le-zero h)
-joinAt-length (suc p) (s ∷ r) h = ap suc (joinAt-length p r (le-of-suc-le-suc h))
+joinAt-length p segments h = simp (length-append, length-drop, length-take-le p segments (omega arith)) (omega arith)
 
 pub keeper-within : (segments : List Segment) (i : ℕ) → 1 < length segments → i < length segments → suc (keeper segments i) < length segments
 unfolding keeper
