@@ -1,75 +1,71 @@
 -- A gap in a column closes entry by entry. While it does, the column is `movedDown p (j + 1)` with its own entry j last: that is the column itself where
 -- the gap begins, and each turn copies the next entry down.
 use mathlib.Core.Path.{_≡_, refl, sym, ap, _∙_}
-use mathlib.Core.List.{List, [], _∷_}
+use mathlib.Core.List.{List, [], _∷_, _++_}
 use Prim.Native.Nat.{ℕ, zero, suc, _+_, _<_, _≤_}
 use native.Mathlib.Nat.{not-suc-le-zero, le-of-suc-le-suc}
 use native.Mathlib.Numerals.{add-one}
 use native.Mathlib.Omega.{arith}
-use lib.ListN.{length, getD, set, length-set}
-use Rattle.closing.specs.Closing.{inserted, movedDown}
+use lib.ListN.{length, getD, set, take, drop, length-append, length-drop, length-set}
+use lib.Seq.{length-take-le, set-at}
+use Rattle.closing.specs.Closing.{movedDown}
 
 module _ {A : Type 0} where
+  -- ---- the definition, entry by entry
+  pub moved-first : (count : ℕ) (x y : A) (xs : List A) → movedDown 0 (suc count) x (y ∷ xs) ≡ take count xs ++ (x ∷ drop count xs)
+  unfolding movedDown
+  moved-first count x y xs = refl
+
+  pub moved-next : (p count : ℕ) (x y : A) (xs : List A) → movedDown (suc p) (suc count) x (y ∷ xs) ≡ y ∷ movedDown p count x xs
+  unfolding movedDown
+  moved-next p count x y xs =
+      let next : suc p + 1 ≡ suc (p + 1) = omega arith in
+      rw next
+
   -- ---- an entry put in before entry n
-  length-inserted : (n : ℕ) (x : A) (xs : List A) → length (inserted n x xs) ≡ suc (length xs)
-  unfolding inserted
-  length-inserted zero x xs = refl
-  length-inserted (suc n) x [] = refl
-  length-inserted (suc n) x (y ∷ xs) = ap suc (length-inserted n x xs)
+  set-between : (n : ℕ) (x y : A) (xs : List A) → n ≤ length xs → set (take n xs ++ (x ∷ drop n xs)) n y ≡ take n xs ++ (y ∷ drop n xs)
+  set-between n x y xs h = set-at (take n xs) x (drop n xs) y n (length-take-le n xs h)
 
-  set-inserted : (n : ℕ) (x y : A) (xs : List A) → n ≤ length xs → set (inserted n x xs) n y ≡ inserted n y xs
-  unfolding inserted
-  set-inserted zero x y xs h = refl
-  set-inserted (suc n) x y [] h = absurd (not-suc-le-zero h)
-  set-inserted (suc n) x y (z ∷ xs) h = ap (λ (l : List A). z ∷ l) (set-inserted n x y xs (le-of-suc-le-suc h))
+  next-between : (n : ℕ) (x d : A) (xs : List A) → n ≤ length xs → getD (take n xs ++ (x ∷ drop n xs)) (suc n) d ≡ getD xs n d
+  next-between zero x d xs h = refl
+  next-between (suc n) x d [] h = absurd (not-suc-le-zero h)
+  next-between (suc n) x d (y ∷ xs) h = next-between n x d xs (le-of-suc-le-suc h)
 
-  next-inserted : (n : ℕ) (x d : A) (xs : List A) → getD (inserted n x xs) (suc n) d ≡ getD xs n d
-  unfolding inserted
-  next-inserted zero x d xs = refl
-  next-inserted (suc n) x d [] = refl
-  next-inserted (suc n) x d (y ∷ xs) = next-inserted n x d xs
-
-  inserted-on : (n : ℕ) (d : A) (xs : List A) → n < length xs → inserted n (getD xs n d) xs ≡ inserted (suc n) (getD xs n d) xs
-  unfolding inserted
-  inserted-on zero d [] h = absurd (not-suc-le-zero h)
-  inserted-on zero d (y ∷ xs) h = refl
-  inserted-on (suc n) d [] h = absurd (not-suc-le-zero h)
-  inserted-on (suc n) d (y ∷ xs) h = ap (λ (l : List A). y ∷ l) (inserted-on n d xs (le-of-suc-le-suc h))
+  between-on : (n : ℕ) (d : A) (xs : List A) → n < length xs → take n xs ++ (getD xs n d ∷ drop n xs) ≡ take (suc n) xs ++ (getD xs n d ∷ drop (suc n) xs)
+  between-on zero d [] h = absurd (not-suc-le-zero h)
+  between-on zero d (y ∷ xs) h = refl
+  between-on (suc n) d [] h = absurd (not-suc-le-zero h)
+  between-on (suc n) d (y ∷ xs) h = ap (λ (l : List A). y ∷ l) (between-on n d xs (le-of-suc-le-suc h))
 
   -- ---- entry p taken out, and another one last
   length-down : (p j : ℕ) (x : A) (xs : List A) → p ≤ j → j < length xs → length (movedDown p (suc j) x xs) ≡ length xs
   unfolding movedDown
-  length-down p j x [] from h = absurd (not-suc-le-zero h)
-  length-down zero j x (y ∷ xs) from h = length-inserted j x xs
-  length-down (suc p) zero x (y ∷ xs) from h = absurd (not-suc-le-zero from)
-  length-down (suc p) (suc j) x (y ∷ xs) from h = ap suc (length-down p j x xs (le-of-suc-le-suc from) (le-of-suc-le-suc h))
+  length-down p j x xs from h = simp (length-append, length-drop, length-take-le p xs (omega arith), length-take-le (suc j) xs h) (omega arith)
 
   set-down : (p j : ℕ) (x y : A) (xs : List A) → p ≤ j → j < length xs → set (movedDown p (suc j) x xs) j y ≡ movedDown p (suc j) y xs
-  unfolding movedDown
   set-down p j x y [] from h = absurd (not-suc-le-zero h)
-  set-down zero j x y (z ∷ xs) from h = set-inserted j x y xs (le-of-suc-le-suc h)
+  set-down zero j x y (z ∷ xs) from h = rw (moved-first j x z xs, moved-first j y z xs) (set-between j x y xs (le-of-suc-le-suc h))
   set-down (suc p) zero x y (z ∷ xs) from h = absurd (not-suc-le-zero from)
-  set-down (suc p) (suc j) x y (z ∷ xs) from h = ap (λ (l : List A). z ∷ l) (set-down p j x y xs (le-of-suc-le-suc from) (le-of-suc-le-suc h))
+  set-down (suc p) (suc j) x y (z ∷ xs) from h =
+      rw (moved-next p (suc j) x z xs, moved-next p (suc j) y z xs) (ap (λ (l : List A). z ∷ l) (set-down p j x y xs (le-of-suc-le-suc from) (le-of-suc-le-suc h)))
 
   next-down : (p j : ℕ) (x d : A) (xs : List A) → p ≤ j → j < length xs → getD (movedDown p (suc j) x xs) (suc j) d ≡ getD xs (suc j) d
-  unfolding movedDown
   next-down p j x d [] from h = absurd (not-suc-le-zero h)
-  next-down zero j x d (y ∷ xs) from h = next-inserted j x d xs
+  next-down zero j x d (y ∷ xs) from h = rw (moved-first j x y xs) (next-between j x d xs (le-of-suc-le-suc h))
   next-down (suc p) zero x d (y ∷ xs) from h = absurd (not-suc-le-zero from)
-  next-down (suc p) (suc j) x d (y ∷ xs) from h = next-down p j x d xs (le-of-suc-le-suc from) (le-of-suc-le-suc h)
+  next-down (suc p) (suc j) x d (y ∷ xs) from h = rw (moved-next p (suc j) x y xs) (next-down p j x d xs (le-of-suc-le-suc from) (le-of-suc-le-suc h))
 
   down-on : (p j : ℕ) (d : A) (xs : List A) → p ≤ j → suc j < length xs → movedDown p (suc j) (getD xs (suc j) d) xs ≡ movedDown p (suc (suc j)) (getD xs (suc j) d) xs
-  unfolding movedDown
   down-on p j d [] from h = absurd (not-suc-le-zero h)
-  down-on zero j d (y ∷ xs) from h = inserted-on j d xs (le-of-suc-le-suc h)
+  down-on zero j d (y ∷ xs) from h = rw (moved-first j (getD xs j d) y xs, moved-first (suc j) (getD xs j d) y xs) (between-on j d xs (le-of-suc-le-suc h))
   down-on (suc p) zero d (y ∷ xs) from h = absurd (not-suc-le-zero from)
-  down-on (suc p) (suc j) d (y ∷ xs) from h = ap (λ (l : List A). y ∷ l) (down-on p j d xs (le-of-suc-le-suc from) (le-of-suc-le-suc h))
+  down-on (suc p) (suc j) d (y ∷ xs) from h =
+      rw (moved-next p (suc j) (getD xs (suc j) d) y xs, moved-next p (suc (suc j)) (getD xs (suc j) d) y xs) (ap (λ (l : List A). y ∷ l) (down-on p j d xs (le-of-suc-le-suc from) (le-of-suc-le-suc h)))
 
   down-start : (p : ℕ) (d : A) (xs : List A) → p < length xs → xs ≡ movedDown p (suc p) (getD xs p d) xs
-  unfolding movedDown inserted
   down-start p d [] h = absurd (not-suc-le-zero h)
-  down-start zero d (y ∷ xs) h = refl
-  down-start (suc p) d (y ∷ xs) h = ap (λ (l : List A). y ∷ l) (down-start p d xs (le-of-suc-le-suc h))
+  down-start zero d (y ∷ xs) h = sym (moved-first 0 y y xs)
+  down-start (suc p) d (y ∷ xs) h = rw (moved-next p (suc p) (getD xs p d) y xs) (ap (λ (l : List A). y ∷ l) (down-start p d xs (le-of-suc-le-suc h)))
 
   -- the gap at p of xs₀ has come to j
   pub record Moved (d : A) (p : ℕ) (xs₀ xs : List A) (j : ℕ) : Type 0 where

@@ -1,21 +1,13 @@
 -- Rows of which one is taken out: those behind it move down. Definitions only.
-use Prim.Native.Nat.{ℕ, zero, suc, _+_}
-use mathlib.Core.List.{List, [], _∷_}
+use Prim.Native.Nat.{ℕ, _+_}
+use mathlib.Core.List.{List, _∷_, _++_}
+use lib.ListN.{take, drop}
 use Rattle.keys.specs.Numbers.{keyNumber}
 use Rattle.timeline.specs.Segments.{emptied, joined, SegmentRows, segmentRows, putSegment, segmentIn}
 
--- x put in before entry n
-unfoldable pub inserted : {A : Type 0} → ℕ → A → List A → List A
-inserted zero x xs = x ∷ xs
-inserted (suc n) x [] = x ∷ []
-inserted (suc n) x (y ∷ xs) = y ∷ inserted n x xs
-
--- of the first `count` entries, p is taken out, and x is the last of them instead
+-- of the first `count` entries, p is taken out, those behind it follow, and x is the last of them instead
 unfoldable pub movedDown : {A : Type 0} → ℕ → ℕ → A → List A → List A
-movedDown p zero x xs = xs
-movedDown p (suc count) x [] = []
-movedDown zero (suc count) x (y ∷ xs) = inserted count x xs
-movedDown (suc p) (suc count) x (y ∷ xs) = y ∷ movedDown p count x xs
+movedDown p count x xs = take p xs ++ (drop (p + 1) (take count xs) ++ (x ∷ drop count xs))
 
 -- each column of the rows, with an emptied row last
 abbrev pub closedRows : ℕ → ℕ → SegmentRows → SegmentRows

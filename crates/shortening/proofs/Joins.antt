@@ -5,21 +5,21 @@ use mathlib.Core.List.{List, [], _∷_, _++_, map, map-append, append-assoc, app
 use Prim.Native.Nat.{ℕ, zero, suc, _+_, _-_, _<_, _≤_}
 use native.Mathlib.Nat.{not-suc-le-zero, le-of-suc-le-suc, lt-irrefl}
 use native.Mathlib.Omega.{arith}
-use lib.ListN.{length, getD, set, drop, replicate, length-append, length-replicate, length-map, length-set}
+use lib.ListN.{length, getD, set, take, drop, replicate, length-append, length-replicate, length-map, length-set}
+use lib.Seq.{take-append-seam, drop-append-seam}
 use Rattle.laws.specs.Front.{front, list}
 use Rattle.laws.proofs.Front.{list-same, map-list, front-own}
 use Rattle.laws.proofs.Column.{Column}
 use Rattle.timeline.specs.Segments.{emptied, joined, segmentAt}
 use Rattle.timeline.specs.declared.segment.Segment.{Segment}
 use Rattle.shortening.specs.Shorten.{joinAt}
-use Rattle.closing.specs.Closing.{inserted, movedDown}
-use Rattle.closing.proofs.Moves.{length-moved}
+use Rattle.closing.specs.Closing.{movedDown}
+use Rattle.closing.proofs.Moves.{moved-first, moved-next, length-moved}
 use Rattle.shortening.proofs.Settles.{joinAt-first, joinAt-more, joinAt-length}
 
-inserted-seam : {A : Type 0} (x : A) (xs rest : List A) → inserted (length xs) x (xs ++ rest) ≡ xs ++ (x ∷ rest)
-unfolding inserted
-inserted-seam x [] rest = refl
-inserted-seam x (y ∷ xs) rest = ap (λ (l : List _). y ∷ l) (inserted-seam x xs rest)
+-- an entry put in where two lists meet
+put-seam : {A : Type 0} (x : A) (xs rest : List A) → take (length xs) (xs ++ rest) ++ (x ∷ drop (length xs) (xs ++ rest)) ≡ xs ++ (x ∷ rest)
+put-seam x xs rest = rw (take-append-seam, drop-append-seam)
 
 -- ---- the segments that are left, with k emptied rows behind them
 abbrev pub padded : ℕ → List Segment → List Segment
@@ -40,13 +40,18 @@ module _ {A : Type 0} (f : Segment → A) where
   read-front (s ∷ left) rest (suc k) d h = read-front left rest k d (le-of-suc-le-suc h)
 
   join-front : (p : ℕ) (left : List Segment) (rest : List A) (x : A) → suc p < length left → movedDown (suc p) (length left) x (set (map f left ++ rest) p (f (joined (segmentAt left p) (segmentAt left (suc p))))) ≡ map f (joinAt p left) ++ (x ∷ rest)
-  unfolding movedDown
   join-front zero [] rest x h = absurd (not-suc-le-zero h)
   join-front zero (s ∷ []) rest x h = absurd (lt-irrefl 1 h)
   join-front zero (s ∷ t ∷ r) rest x h =
-      rw (joinAt-first s t r) (ap (λ (l : List A). f (joined s t) ∷ l) (ap (λ (n : ℕ). inserted n x (map f r ++ rest)) (sym (length-map r f)) ∙ inserted-seam x (map f r) rest))
+      moved-next 0 (suc (length r)) x (f (joined s t)) (f t ∷ (map f r ++ rest))
+      ∙ ap (λ (l : List A). f (joined s t) ∷ l)
+      (moved-first (length r) x (f t) (map f r ++ rest) ∙ ap (λ (n : ℕ). take n (map f r ++ rest) ++ (x ∷ drop n (map f r ++ rest))) (sym (length-map r f)) ∙ put-seam x (map f r) rest)
+      ∙ ap (λ (l : List Segment). map f l ++ (x ∷ rest)) (sym (joinAt-first s t r))
   join-front (suc p) [] rest x h = absurd (not-suc-le-zero h)
-  join-front (suc p) (s ∷ r) rest x h = rw (joinAt-more p s r) (ap (λ (l : List A). f s ∷ l) (join-front p r rest x (le-of-suc-le-suc h)))
+  join-front (suc p) (s ∷ r) rest x h =
+      moved-next (suc p) (length r) x (f s) _
+      ∙ ap (λ (l : List A). f s ∷ l) (join-front p r rest x (le-of-suc-le-suc h))
+      ∙ ap (λ (l : List Segment). map f l ++ (x ∷ rest)) (sym (joinAt-more p s r))
 
   -- ---- the same of a lent column
   pub column-own : (g : ℕ → Segment) (n : ℕ) (m : List A) (d : A) → n ≤ length m → ((k : ℕ) → k < n → f (g k) ≡ getD m k d) → Column f (padded (n - n) (list g n)) m m
