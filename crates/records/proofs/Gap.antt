@@ -9,12 +9,21 @@ use lib.ListN.{length, getD, set, length-set, take, drop}
 use Rattle.timeline.specs.Segments.{emptied, joined, segmentAt}
 use Rattle.timeline.specs.declared.segment.Segment.{Segment}
 use Rattle.shortening.specs.Shorten.{joinAt}
-use Rattle.closing.specs.Closing.{movedDown}
-use Rattle.closing.proofs.Moves.{moved-first, moved-next}
+use Rattle.records.specs.Steps.{movedDown, copiedDown, joinedRecords}
 use Rattle.shortening.proofs.Settles.{joinAt-first, joinAt-more}
-use Rattle.records.specs.Records.{copiedDown, joinedRecords}
 
 module _ {A : Type 0} where
+  -- the definition, entry by entry
+  moved-first : (count : ℕ) (x y : A) (xs : List A) → movedDown 0 (suc count) x (y ∷ xs) ≡ take count xs ++ (x ∷ drop count xs)
+  unfolding movedDown
+  moved-first count x y xs = refl
+
+  moved-next : (p count : ℕ) (x y : A) (xs : List A) → movedDown (suc p) (suc count) x (y ∷ xs) ≡ y ∷ movedDown p count x xs
+  unfolding movedDown
+  moved-next p count x y xs =
+      let next : suc p + 1 ≡ suc (p + 1) = omega arith in
+      rw next
+
   turn-closes : (j count : ℕ) (x d : A) (l : List A) → suc j < count → count ≤ length l → movedDown (suc j) count x (set l j (getD l (suc j) d)) ≡ movedDown j count x l
   turn-closes j zero x d l h k = absurd (not-suc-le-zero h)
   turn-closes j (suc count) x d [] h k = absurd (not-suc-le-zero k)

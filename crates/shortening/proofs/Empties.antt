@@ -10,10 +10,7 @@ use Rattle.timeline.specs.Segments.{emptied, SegmentRows, putSegment, Room}
 use Rattle.timeline.specs.declared.segment.Segment.{Segment}
 use Rattle.timeline.proofs.Segments.{same-rows}
 use Rattle.shortening.specs.Gap.{emptiedColumn, emptiedRows}
-
-one-more : {A : Type 0} (k : ℕ) (x : A) (rest : List A) → replicate k x ++ (x ∷ rest) ≡ replicate (suc k) x ++ rest
-one-more zero x rest = refl
-one-more (suc k) x rest = ap (λ (l : List _). x ∷ l) (one-more k x rest)
+use Rattle.shortening.proofs.Settles.{one-more}
 
 -- the entries of m₀ from `from` up to i are x
 pub record Emptied {A : Type 0} (from : ℕ) (x : A) (m₀ m : List A) (i : ℕ) : Type 0 where

@@ -7,8 +7,8 @@ use native.Mathlib.Nat.{zero-add, le-of-suc-le-suc, not-suc-le-zero, lt-irrefl}
 use native.Mathlib.Numerals.{add-one}
 use native.Mathlib.Omega.{arith}
 use mathlib.Core.Bool.{Bool, true, false, not, cond}
-use mathlib.Core.List.{List, [], _∷_}
-use lib.ListN.{length, length-append, length-drop, length-replicate}
+use mathlib.Core.List.{List, [], _∷_, _++_}
+use lib.ListN.{length, replicate, length-append, length-drop, length-replicate}
 use lib.Seq.{length-take-le}
 use lib.Dec.{T, ltb, eqb, ltb→lt, lt→ltb, nltb→le, T-not, not-T}
 use lib.Ieee.{Float, le}
@@ -21,6 +21,11 @@ use Rattle.timeline.specs.Segments.{seconds, short, joined, segmentAt}
 use Rattle.timeline.specs.declared.segment.Segment.{Segment}
 use Rattle.shortening.specs.Shorten.{firstShort, keeper, joinAt, unsettled, joinShort, shorten, shortenedOf, leftIn}
 use Rattle.shortening.specs.Ends.{ShorteningEnds, NoneLeftShort}
+
+-- one more of the same
+pub one-more : {A : Type 0} (k : ℕ) (x : A) (rest : List A) → replicate k x ++ (x ∷ rest) ≡ replicate (suc k) x ++ rest
+one-more zero x rest = refl
+one-more (suc k) x rest = ap (λ (l : List _). x ∷ l) (one-more k x rest)
 
 pub firstShort-within : (least : Float) (segments : List Segment) → firstShort least segments ≤ length segments
 unfolding firstShort

@@ -284,17 +284,17 @@ module _ {least : Float} {count : ℕ} {before now : SegmentRows} {done next : �
         | inr inner ↦ absurd (subst T (rw (ne-eqb last 0 (λ z. omega (arith, z, inner)), eq-eqb next count end) at b) tt)
       ]
 
-  pub back-two : joinsBack least done next count now ≡ true → 2 ≤ done
+  pub back-two : {flag : Bool} → flag ≡ joinsBack least done next count now → flag ≡ true → 2 ≤ done
   unfolding joinsBack
-  back-two t = let inner = has-before (both (short least (segmentIn now last)) (prefersBack done next count now) t .1) in omega arith
+  back-two f t = let inner = has-before (both (short least (segmentIn now last)) (prefersBack done next count now) (sym f ∙ t) .1) in omega arith
 
   room-of : (n : ℕ) → n ≤ count → Room now n
   room-of n h =
       let room = now-room in
       record { starts = omega (arith, room .starts); ends = omega (arith, room .ends); keys = omega (arith, room .keys); confidences = omega (arith, room .confidences) }
 
-  pub back-room : joinsBack least done next count now ≡ true → Room now (last - 1 + 2)
-  back-room t = let two = back-two t in room-of (last - 1 + 2) (omega (arith, g .apart, g .upto))
+  pub back-room : {flag : Bool} → flag ≡ joinsBack least done next count now → flag ≡ true → Room now (last - 1 + 2)
+  back-room f t = let two = back-two f t in room-of (last - 1 + 2) (omega (arith, g .apart, g .upto))
 
   pub more-room : (next ≡ count → ⊥) → Room now (next + 1)
   more-room inside = room-of (next + 1) (omega (arith, inside, g .upto))
@@ -336,10 +336,10 @@ module _ {least : Float} {count : ℕ} {before now : SegmentRows} {done next : �
       ]
 
   -- ---- the ways through a turn
-  pub gap-back : {p : ℕ} {after : SegmentRows} → joinsBack least done next count now ≡ true → p ≡ last - 1 → after ≡ joinedRows p now → Gap least count before after last next
+  pub gap-back : {flag : Bool} {p : ℕ} {after : SegmentRows} → flag ≡ joinsBack least done next count now → flag ≡ true → p ≡ last - 1 → after ≡ joinedRows p now → Gap least count before after last next
   unfolding joinsBack
-  gap-back {p} {after} t e put =
-      let (s, b) = both (short least (segmentIn now last)) (prefersBack done next count now) t in
+  gap-back {p = p} {after = after} f t e put =
+      let (s, b) = both (short least (segmentIn now last)) (prefersBack done next count now) (sym f ∙ t) in
       let inner = has-before b in
       let apart = g .apart in
       let two : p + 2 ≡ done = omega arith in
@@ -350,12 +350,12 @@ module _ {least : Float} {count : ℕ} {before now : SegmentRows} {done next : �
       let more = gap-put p next x (omega arith) (omega arith) (omega arith) (g .upto) (λ i less. g .fine i (omega (arith, less))) same in
       subst (λ (n : ℕ). Gap least count before after n next) one (subst (λ (r : SegmentRows). Gap least count before r (p + 1) next) (sym put) more)
 
-  pub gap-more : {found : ℕ} {after : SegmentRows} → joinsBack least done next count now ≡ false → (next ≡ count → ⊥) → filled found after ≡ takenIn least done next now → Gap least count before after found (next + 1)
+  pub gap-more : {flag : Bool} {found : ℕ} {after : SegmentRows} → flag ≡ joinsBack least done next count now → flag ≡ false → (next ≡ count → ⊥) → filled found after ≡ takenIn least done next now → Gap least count before after found (next + 1)
   unfolding joinsBack takenIn
-  gap-more {found} {after} t inside e =
+  gap-more {found = found} {after = after} f t inside e =
       let upto = g .upto in
       let more : next < count = omega (arith, inside) in
-      elim (not-both (short least (segmentIn now last)) (prefersBack done next count now) t) [
+      elim (not-both (short least (segmentIn now last)) (prefersBack done next count now) (sym f ∙ t)) [
         | inl long ↦ subst (λ (f : Filled). Gap least count before (f .rows) (f .count) (next + 1)) (sym (rw long at e)) (reads long more)
         | inr joins ↦ subst (λ (f : Filled). Gap least count before (f .rows) (f .count) (next + 1)) (sym (rw (joins .0) at e)) (goes-on (joins .0) (joins .1) more)
       ]
@@ -387,13 +387,13 @@ module _ {least : Float} {count : ℕ} {before now : SegmentRows} {done next : �
         | inr joins ↦ let one = has-none (joins .1) end in few-settled least (g .kept) (omega (arith, one, g .many, g .some))
       ]
 
-  pub gap-end : {after : SegmentRows} → joinsBack least done next count now ≡ false → next ≡ count → after ≡ emptiedRows done count now → filled done after ≡ settled least segments before
+  pub gap-end : {flag : Bool} {after : SegmentRows} → flag ≡ joinsBack least done next count now → flag ≡ false → next ≡ count → after ≡ emptiedRows done count now → filled done after ≡ settled least segments before
   unfolding leftIn shortenedOf
-  gap-end {after} t end put =
+  gap-end f t end put =
       let kept = g .kept in
       let ready : length kept ≤ next = omega (arith, g .many, g .apart) in
       let full : next ≡ length segments = end ∙ sym segments-long in
-      let same : kept ≡ shortenedOf least segments = sym (stays (length kept) least kept (nothing-left t end)) ∙ ap (shortenedOf least) (sym (all-read end)) ∙ g .ahead in
+      let same : kept ≡ shortenedOf least segments = sym (stays (length kept) least kept (nothing-left (sym f ∙ t) end)) ∙ ap (shortenedOf least) (sym (all-read end)) ∙ g .ahead in
       let rows : emptiedRows (length kept) next now ≡ holdingSegments (kept ++ replicate (next - length kept) emptied) before = same-rows (apart-end _ kept next (g .starts) ready) (apart-end _ kept next (g .ends) ready) (apart-end _ kept next (g .keys) ready) (apart-end _ kept next (g .confidences) ready) in
       ap (filled done) (put ∙ ap (λ (n : ℕ). emptiedRows n count now) (sym (g .many)) ∙ ap (λ (n : ℕ). emptiedRows (length kept) n now) (sym end) ∙ rows)
       ∙ ap (λ (n : ℕ). filled n (holdingSegments (kept ++ replicate (next - length kept) emptied) before)) (sym (g .many))

@@ -1,5 +1,5 @@
 -- Each way out of a turn is a law of `Shortens`.
-use mathlib.Core.Path.{refl, sym, _∙_}
+use mathlib.Core.Path.{refl, _∙_}
 use Prim.Native.Nat.{_+_, _-_}
 use native.Mathlib.Omega.{arith}
 use borrow.Author.Needs.{needs}
@@ -29,22 +29,22 @@ sub-done : tie.Need-sub-done Inv-loop μ-loop
 sub-done c = c .before .before .before .before .before .before .loop .inv .some
 
 sub-join-rows : tie.Need-sub-join-rows Inv-loop μ-loop
-sub-join-rows c = let two = back-two (c .before .before .before .before .before .before .loop .inv) (sym (c .before .joins-back .ensures) ∙ c .if2 .taken) in omega arith
+sub-join-rows c = let two = back-two (c .before .before .before .before .before .before .loop .inv) (c .before .joins-back .ensures) (c .if2 .taken) in omega arith
 
 join-rows-requires : tie.Need-join-rows-requires Inv-loop μ-loop
-join-rows-requires c κs = let back = c .before .before .before .before in back-room (back .before .before .before .before .before .before .loop .inv) (sym (back .before .joins-back .ensures) ∙ back .if2 .taken)
+join-rows-requires c κs = let back = c .before .before .before .before in back-room (back .before .before .before .before .before .before .loop .inv) (back .before .joins-back .ensures) (back .if2 .taken)
 
 loop-less : tie.Need-loop-less Inv-loop μ-loop
 loop-less c =
     let back = c .before .before .before .before .before .before .before .before .before .before .before .before .before in
-    let two = back-two (back .before .before .before .before .before .before .loop .inv) (sym (back .before .joins-back .ensures) ∙ back .if2 .taken) in
+    let two = back-two (back .before .before .before .before .before .before .loop .inv) (back .before .joins-back .ensures) (back .if2 .taken) in
     omega arith
 
 loop-again : tie.Need-loop-again Inv-loop μ-loop
 loop-again c =
     let join = c .before .before .before .before .before .before .before .before in
     let back = join .before .before .before .before .before in
-    gap-back (back .before .before .before .before .before .before .loop .inv) (sym (back .before .joins-back .ensures) ∙ back .if2 .taken) refl (join .join-rows .ensures)
+    gap-back (back .before .before .before .before .before .before .loop .inv) (back .before .joins-back .ensures) (back .if2 .taken) refl (join .join-rows .ensures)
 
 take-in-requires : tie.Need-take-in-requires Inv-loop μ-loop
 take-in-requires c κs = let inside = c .before .before .before .before in let gap = inside .before .before .before .before .before .before .before .loop .inv in (gap .some, gap .apart, more-room gap (inside .if3 .left))
@@ -68,7 +68,7 @@ loop-again-2 c =
     let took = c .before .before .before .before .before .before .before .before in
     let inside = took .before .before .before .before .before in
     let back = inside .before in
-    gap-more (back .before .before .before .before .before .before .loop .inv) (sym (back .before .joins-back .ensures) ∙ back .if2 .left) (inside .if3 .left) (took .take-in .ensures)
+    gap-more (back .before .before .before .before .before .before .loop .inv) (back .before .joins-back .ensures) (back .if2 .left) (inside .if3 .left) (took .take-in .ensures)
 
 empty-rows-requires : tie.Need-empty-rows-requires Inv-loop μ-loop
 empty-rows-requires c κs = let gap = c .before .before .before .before .before .before .before .before .before .before .before .loop .inv in (omega (arith, gap .apart, gap .upto), now-room gap)
@@ -90,7 +90,7 @@ returns-2 c =
     let empty = c .before .before .before .before .before .before .before .before in
     let end = empty .before .before .before .before .before in
     let back = end .before in
-    gap-end (back .before .before .before .before .before .before .loop .inv) (sym (back .before .joins-back .ensures) ∙ back .if2 .left) (end .if3 .taken) (empty .empty-rows .ensures)
+    gap-end (back .before .before .before .before .before .before .loop .inv) (back .before .joins-back .ensures) (back .if2 .left) (end .if3 .taken) (empty .empty-rows .ensures)
 
 pub shorten-segments-spec : {M : Type 1} → statement M
 shorten-segments-spec =
