@@ -2,7 +2,7 @@
 use mathlib.Core.Path.{_≡_, refl, sym, ap, _∙_}
 use mathlib.Core.Bool.{not}
 use mathlib.Core.List.{List, _∷_, _++_, append-assoc, append-nil}
-use Prim.Native.Nat.{ℕ, zero, suc, _+_, _-_, _<_, _≤_}
+use Prim.Native.Nat.{ℕ, suc, _+_, _-_, _<_, _≤_}
 use native.Mathlib.Omega.{arith}
 use lib.Dec.{T}
 use lib.ListN.{length, take, drop, replicate, length-append, take-append-drop}
@@ -10,7 +10,7 @@ use lib.Seq.{length-take-le, take-append-seam, drop-append-seam}
 use lib.Ieee.{Float}
 use Rattle.timeline.specs.Segments.{emptied}
 use Rattle.timeline.specs.declared.segment.Segment.{Segment}
-use Rattle.shortening.specs.Shorten.{firstShort, keeper, joinAt, joinShort, unsettled, shorten, shortenedOf, leftIn}
+use Rattle.shortening.specs.Shorten.{firstShort, keeper, joinAt, joinShort, unsettled, shortenedOf, leftIn}
 use Rattle.shortening.proofs.Settles.{one-more, firstShort-within, keeper-within, joinAt-length, joinShort-length, shortened-join, to-join, few-settled, long-settled, shortened-few, left-long, stays}
 use Rattle.records.specs.Records.{Left, left, shortenedIn}
 use Rattle.records.specs.Steps.{joinedRecords}

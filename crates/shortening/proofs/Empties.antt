@@ -1,7 +1,7 @@
 -- Rows emptied one by one, each column for itself.
 use mathlib.Core.Path.{_≡_, refl, sym, ap, _∙_}
-use mathlib.Core.List.{List, [], _∷_, _++_, append-assoc}
-use Prim.Native.Nat.{ℕ, zero, suc, _+_, _-_, _<_, _≤_}
+use mathlib.Core.List.{List, _∷_, _++_, append-assoc}
+use Prim.Native.Nat.{ℕ, suc, _+_, _-_, _<_, _≤_}
 use native.Mathlib.Omega.{arith}
 use lib.ListN.{length, set, take, drop, replicate, length-append, length-replicate, length-set, take-append-drop}
 use lib.Seq.{length-take-le, drop-cons, set-at}
@@ -63,10 +63,6 @@ emptying-start {from} before h room =
     }
 
 module _ {from count : ℕ} {before now : SegmentRows} {i : ℕ} (e : Emptying from count before now i) where
-  pub emptying-there : i < count → (i < length (now .starts)) × (i < length (now .ends)) × (i < length (now .keys)) × (i < length (now .confidences))
-  emptying-there h =
-      (omega (arith, e .starts .long, e .room .starts), omega (arith, e .ends .long, e .room .ends), omega (arith, e .keys .long, e .room .keys), omega (arith, e .confidences .long, e .room .confidences))
-
   pub emptying-more : {s : Segment} {after : SegmentRows} → i < count → s ≡ emptied → after ≡ putSegment s i now → Emptying from count before after (i + 1)
   emptying-more h nothing put = rw (put, nothing) (record {
     since = omega (arith, e .since);

@@ -3,11 +3,11 @@
 use mathlib.Core.Path.{_≡_, refl, sym, ap, subst, _∙_}
 use mathlib.Core.Logic.{inl, inr}
 use Prim.Native.Nat.{ℕ, zero, suc, _+_, _-_, _<_, _≤_}
-use native.Mathlib.Nat.{zero-add, le-of-suc-le-suc, not-suc-le-zero, lt-irrefl}
+use native.Mathlib.Nat.{zero-add}
 use native.Mathlib.Numerals.{add-one}
 use native.Mathlib.Omega.{arith}
 use mathlib.Core.Bool.{Bool, true, false, not, cond}
-use mathlib.Core.List.{List, [], _∷_, _++_}
+use mathlib.Core.List.{List, _∷_, _++_}
 use lib.ListN.{length, replicate, length-append, length-drop, length-replicate}
 use lib.Seq.{length-take-le}
 use lib.Dec.{T, ltb, eqb, ltb→lt, lt→ltb, nltb→le, T-not, not-T}
@@ -125,7 +125,7 @@ unfolding shorten
 stays zero least segments t = refl
 stays (suc budget) least segments t = by-test (λ (r : List Segment). r ≡ segments) (unsettled least segments) (λ u. absurd (T-not (unsettled least segments) t u)) (λ _. refl)
 
-pub joins-on : (budget : ℕ) (least : Float) (segments : List Segment) → T (unsettled least segments) → shorten (suc budget) least segments ≡ shorten budget least (joinShort least segments)
+joins-on : (budget : ℕ) (least : Float) (segments : List Segment) → T (unsettled least segments) → shorten (suc budget) least segments ≡ shorten budget least (joinShort least segments)
 unfolding shorten
 joins-on budget least segments t = by-test (λ (r : List Segment). r ≡ shorten budget least (joinShort least segments)) (unsettled least segments) (λ _. refl) (λ u. absurd (T-not (unsettled least segments) u t))
 

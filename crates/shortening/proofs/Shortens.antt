@@ -4,11 +4,11 @@ use mathlib.Core.Path.{_≡_, refl, sym, ap, subst, _∙_}
 use mathlib.Core.Logic.{_⊎_, inl, inr}
 use mathlib.Core.Bool.{Bool, true, false, not, _&&_, cond}
 use mathlib.Core.List.{List, [], _∷_, _++_, append-nil}
-use Prim.Native.Nat.{ℕ, zero, suc, _+_, _-_, _<_, _≤_}
+use Prim.Native.Nat.{ℕ, suc, _+_, _-_, _<_, _≤_}
 use native.Mathlib.Nat.{eq-or-lt-of-le, add-zero}
 use native.Mathlib.Omega.{arith}
 use lib.Dec.{T, eqb}
-use lib.ListN.{length, getD, take, drop, replicate, length-append, length-drop, List·getD-append}
+use lib.ListN.{length, take, drop, replicate, length-append, length-drop, List·getD-append}
 use lib.Seq.{length-take-le, take-length, take-append-le, drop-at, drop-append-add, drop-cons, drop-drop, drop-length, append-snoc, getD-take, getD-drop, getD-append-add}
 use lib.Ieee.{Float, nan, le}
 use borrow.Author.Tests.{eq-eqb, ne-eqb}
@@ -23,7 +23,7 @@ use Rattle.timeline.specs.declared.segment.Segment.{Segment}
 use Rattle.timeline.proofs.Segments.{segment-there, same-rows}
 use Rattle.shortening.specs.Shorten.{firstShort, keeper, joinAt, joinShort, unsettled, shorten, shortenedOf, leftIn, settled}
 use Rattle.shortening.specs.Gap.{prefersBack, joinsBack, joinedRows, takenIn, emptiedRows}
-use Rattle.shortening.proofs.Settles.{firstShort-at, firstShort-within, to-join, few-settled, none-to-join, shortened-join, stays}
+use Rattle.shortening.proofs.Settles.{firstShort-at, to-join, few-settled, none-to-join, shortened-join, stays}
 use Rattle.shortening.proofs.Apart.{Apart, apart-start, apart-put, apart-kept, apart-rest, apart-end}
 
 both : (a b : Bool) → (a && b) ≡ true → (a ≡ true) × (b ≡ true)

@@ -2,7 +2,7 @@
 use Prim.Native.Nat.{_-_}
 use borrow.Author.Needs.{needs}
 use Rattle.timeline.specs.Segments.{segmentRows}
-use Rattle.shortening.proofs.Empties.{Emptying, emptying-start, emptying-there, emptying-more, emptying-end}
+use Rattle.shortening.proofs.Empties.{Emptying, emptying-start, emptying-more, emptying-end}
 use Rattle.shortening.proofs.shorten.empty_rows.Statement.{statement}
 use Rattle.shortening.proofs.shorten.empty_rows.Tie as tie
 
@@ -19,7 +19,7 @@ emptied-segment-requires : tie.Need-emptied-segment-requires Inv-loop μ-loop
 emptied-segment-requires c κs = search needs
 
 put-segment-requires : tie.Need-put-segment-requires Inv-loop μ-loop
-put-segment-requires c κs = let turn = c .before .before .before .before .before in emptying-there (turn .before .loop .inv) (turn .loop-test .taken)
+put-segment-requires c κs = search needs
 
 add-i : tie.Need-add-i Inv-loop μ-loop
 add-i c = search needs
