@@ -16,7 +16,9 @@ use Rattle.timeline.specs.declared.estimate.Estimate.{Estimate}
 use Rattle.timeline.specs.declared.segment.Segment.{Segment}
 use Rattle.timeline.proofs.Segments.{Holds, holds-start, holds-more, holds-all}
 use Rattle.splits.specs.Splits.{splits, borderOf}
-use Rattle.groups.specs.Groups.{between, grouped, groupOf, estimateAt, Cutting, cutting, cutTurn, closed, groupsOf}
+use Rattle.groups.specs.Groups.{between, estimateAt, groupsOf}
+use Rattle.groups.specs.Written.{grouped}
+use Rattle.groups.proofs.Loop.{groupFrom, Cutting, cutting, cutTurn, closed, groups-loop}
 use Rattle.groups.proofs.Parts.{group-in-rows}
 
 -- Cutting has come to estimate j: n segments are cut off and stand in the rows, and a group is being gathered.
@@ -58,7 +60,7 @@ module _ {rows : EstimateRows} {threshold : Float} {found : ℕ} {before now : S
   abbrev turned : Bool → Cutting
   turned b =
       cond b
-      (cutting (cut .done ++ (groupOf estimates from (j + 1) start (borderOf (estimateIn rows j) (estimateIn rows (j + 1))) ∷ [])) (j + 1) (borderOf (estimateIn rows j) (estimateIn rows (j + 1))))
+      (cutting (cut .done ++ (groupFrom estimates from (j + 1) start (borderOf (estimateIn rows j) (estimateIn rows (j + 1))) ∷ [])) (j + 1) (borderOf (estimateIn rows j) (estimateIn rows (j + 1))))
       (cutting (cut .done) from start)
 
   turn-is : j < found - 1 → (b : Bool) → splits threshold (estimateIn rows j) (estimateIn rows (j + 1)) ≡ b → cutTurn threshold estimates j (cutting (cut .done) from start) ≡ turned b
@@ -92,10 +94,10 @@ module _ {rows : EstimateRows} {threshold : Float} {found : ℕ} {before now : S
 
   -- the group up to `to`, written into the next row
   written : {after : SegmentRows} (to : ℕ) (end : Float) → from ≤ to → to ≤ found → after ≡ putSegment (grouped start end (between (rows .keys) from to) (between (rows .confidences) from to)) n now
-      → Holds (cut .done ++ (groupOf estimates from to start end ∷ [])) before after
+      → Holds (cut .done ++ (groupFrom estimates from to start end ∷ [])) before after
   written to end h k a =
       subst (Holds _ before) (sym (a ∙ ap (λ (s : Segment). putSegment s n now) (group-in-rows rows found (cut .there) from to start end h k)))
-      (holds-more (cut .done) (groupOf estimates from to start end) before now n (cut .count) room-left (cut .holds))
+      (holds-more (cut .done) (groupFrom estimates from to start end) before now n (cut .count) room-left (cut .holds))
 
   pub cut-off : {border : Float} {after : SegmentRows} → j < found - 1 → splits threshold (estimateIn rows j) (estimateIn rows (j + 1)) ≡ true → border ≡ borderOf (estimateIn rows j) (estimateIn rows (j + 1))
       → after ≡ putSegment (grouped start border (between (rows .keys) from (j + 1)) (between (rows .confidences) from (j + 1))) n now → Cut rows threshold found before after (j + 1) border (n + 1) (j + 1)
@@ -105,7 +107,7 @@ module _ {rows : EstimateRows} {threshold : Float} {found : ℕ} {before now : S
         some = cut .some;
         there = cut .there;
         room = cut .room;
-        done = cut .done ++ (groupOf estimates from (j + 1) start edge ∷ []);
+        done = cut .done ++ (groupFrom estimates from (j + 1) start edge ∷ []);
         count = simp length-append (omega (arith, cut .count));
         few = omega (arith, cut .few, cut .behind);
         behind = omega arith;
@@ -119,11 +121,10 @@ module _ {rows : EstimateRows} {threshold : Float} {found : ℕ} {before now : S
 
   pub cut-end : {after : SegmentRows} (duration : Float) → found - 1 ≤ j → after ≡ putSegment (grouped start duration (between (rows .keys) from found) (between (rows .confidences) from found)) n now
       → filled (n + 1) after ≡ standing (groupsOf threshold duration estimates) before
-  unfolding groupsOf
   cut-end {after} duration h a =
       let long : length estimates ≡ found = length-list (estimateIn rows) found in
-      let last = cut .done ++ (groupOf estimates from found start duration ∷ []) in
+      let last = cut .done ++ (groupFrom estimates from found start duration ∷ []) in
       let here = holds-all last before after (written found duration (omega (arith, cut .behind, cut .upto)) (omega arith) a) in
-      let all : last ≡ groupsOf threshold duration estimates = ap (λ (k : ℕ). cut .done ++ (groupOf estimates from k start duration ∷ [])) (sym long) ∙ ap (closed estimates duration) (turns-end (cutTurn threshold estimates) (found - 1) j (cut .ahead) h ∙ ap (λ (k : ℕ). turns (cutTurn threshold estimates) (k - 1) 0 (cutting [] 0 plusZero)) (sym long)) in
+      let all : last ≡ groupsOf threshold duration estimates = ap (λ (k : ℕ). cut .done ++ (groupFrom estimates from k start duration ∷ [])) (sym long) ∙ ap (closed estimates duration) (turns-end (cutTurn threshold estimates) (found - 1) j (cut .ahead) h ∙ ap (λ (k : ℕ). turns (cutTurn threshold estimates) (k - 1) 0 (cutting [] 0 plusZero)) (sym long)) ∙ sym (groups-loop threshold estimates duration) in
       let many : n + 1 ≡ length last = simp length-append (omega (arith, cut .count)) in
       ap (filled (n + 1)) here ∙ ap (λ (k : ℕ). filled k (holdingSegments last before)) many ∙ ap (λ (l : List Segment). standing l before) all

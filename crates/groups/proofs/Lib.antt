@@ -1,4 +1,5 @@
 mod Parts
+mod Loop
 mod Cuts
 pub mod Tiled
 pub mod Few

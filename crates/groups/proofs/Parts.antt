@@ -1,7 +1,7 @@
 -- Laws of estimates in lent rows: the numbers and the confidences of a group are entries of the rows' own slices.
 use mathlib.Core.Path.{_≡_, refl, sym, ap, _∙_}
-use mathlib.Core.List.{List, _++_, map}
-use Prim.Native.Nat.{ℕ, _-_, _<_, _≤_}
+use mathlib.Core.List.{List, [], _∷_, _++_, map}
+use Prim.Native.Nat.{ℕ, zero, suc, _-_, _<_, _≤_}
 use native.Mathlib.Omega.{arith}
 use lib.ListN.{length, getD, take, drop, length-drop}
 use lib.Seq.{take-append-le, drop-append-le}
@@ -12,7 +12,8 @@ use Rattle.keys.specs.Numbers.{keyNumber}
 use Rattle.keys.proofs.Placed.{numbers-are-keys}
 use Rattle.timeline.specs.Estimates.{EstimateRows, Found, estimateIn, estimatesIn}
 use Rattle.timeline.specs.declared.estimate.Estimate.{Estimate}
-use Rattle.groups.specs.Groups.{between, grouped, numbersOf, groupOf}
+use Rattle.groups.specs.Groups.{border, between, numbersOf, groupOf}
+use Rattle.groups.specs.Written.{grouped}
 
 -- what stands behind a list does not matter to a part of it
 part-of-first : {A : Type 0} (xs ys : List A) (from to : ℕ) → from ≤ to → to ≤ length xs → between (xs ++ ys) from to ≡ between xs from to
@@ -29,11 +30,20 @@ part-of-rows f g xs d n from to same h k l =
     let entries : list own n ≡ map f (list g n) = list-same own (λ (i : ℕ). f (g i)) n (λ i p. sym (same i p)) ∙ sym (map-list f g n) in
     ap (λ (ys : List _). between ys from to) (front-own xs n d l) ∙ part-of-first (list own n) (drop (length (list own n)) xs) from to h long ∙ ap (λ (ys : List _). between ys from to) entries
 
+-- a column of a part is that part of the column
+map-part : {A B : Type 0} (f : A → B) (n k : ℕ) (xs : List A) → take n (drop k (map f xs)) ≡ map f (take n (drop k xs))
+map-part f zero k xs = refl
+map-part f (suc n) zero [] = refl
+map-part f (suc n) zero (x ∷ xs) = ap (λ (l : List _). f x ∷ l) (map-part f n zero xs)
+map-part f (suc n) (suc k) [] = refl
+map-part f (suc n) (suc k) (x ∷ xs) = map-part f (suc n) k xs
+
 module _ (rows : EstimateRows) (count : ℕ) (there : Found rows count) where
   -- a group's segment, from the slices
-  pub group-in-rows : (from to : ℕ) (start end : Float) → from ≤ to → to ≤ count → grouped start end (between (rows .keys) from to) (between (rows .confidences) from to) ≡ groupOf (estimatesIn rows count) from to start end
-  unfolding groupOf estimateIn
+  pub group-in-rows : (from to : ℕ) (start end : Float) → from ≤ to → to ≤ count → grouped start end (between (rows .keys) from to) (between (rows .confidences) from to) ≡ groupOf (estimatesIn rows count) (border from start) (border to end)
+  unfolding groupOf grouped estimateIn
   group-in-rows from to start end h k =
-      let numbers = part-of-rows (λ (e : Estimate). keyNumber (e .key)) (estimateIn rows) (rows .keys) 0 count from to (λ i p. numbers-are-keys .number-back _ (there .numbered i p)) h k (there .keys) in
-      let confidences = part-of-rows (λ (e : Estimate). e .confidence) (estimateIn rows) (rows .confidences) nan count from to (λ i p. refl) h k (there .confidences) in
-      ap (λ (l : List ℕ). grouped start end l (between (rows .confidences) from to)) numbers ∙ ap (grouped start end (between (numbersOf (estimatesIn rows count)) from to)) confidences
+      let estimates = estimatesIn rows count in
+      let numbers = part-of-rows (λ (e : Estimate). keyNumber (e .key)) (estimateIn rows) (rows .keys) 0 count from to (λ i p. numbers-are-keys .number-back _ (there .numbered i p)) h k (there .keys) ∙ map-part (λ (e : Estimate). keyNumber (e .key)) (to - from) from estimates in
+      let confidences = part-of-rows (λ (e : Estimate). e .confidence) (estimateIn rows) (rows .confidences) nan count from to (λ i p. refl) h k (there .confidences) ∙ map-part (λ (e : Estimate). e .confidence) (to - from) from estimates in
+      ap (λ (l : List ℕ). grouped start end l (between (rows .confidences) from to)) numbers ∙ ap (grouped start end (numbersOf (between estimates from to))) confidences

@@ -24,7 +24,8 @@ use Rattle.timeline.specs.Tiling.{Tiles}
 use Rattle.timeline.specs.declared.estimate.Estimate.{Estimate}
 use Rattle.timeline.proofs.Tilings.{Starts, Chain, chain-more, chain→tiles}
 use Rattle.splits.specs.Splits.{borderOf, splits}
-use Rattle.groups.specs.Groups.{grouped, groupOf, estimateAt, Cutting, cutting, cutTurn, closed, groupsOf, firstSegments}
+use Rattle.groups.specs.Groups.{groupOf, estimateAt, groupsOf, firstSegments}
+use Rattle.groups.proofs.Loop.{groupFrom, Cutting, cutting, cutTurn, closed, cutAt, groups-loop}
 use Rattle.groups.specs.Tiled.{GroupsTile}
 
 module _ (threshold duration : Float) (found : List Estimate) (whole : Modest binary64 duration) (rising : Rising duration found) where
@@ -34,12 +35,12 @@ module _ (threshold duration : Float) (found : List Estimate) (whole : Modest bi
     begun : T (le (c .start) (centreAt found j))
 
   -- the segment of a group starts where the one before it ended
-  group-starts : (from to : ℕ) (start end : Float) → Held binary64 end → T (le start end) → Starts start (groupOf found from to start end)
-  unfolding groupOf grouped
+  group-starts : (from to : ℕ) (start end : Float) → Held binary64 end → T (le start end) → Starts start (groupFrom found from to start end)
+  unfolding groupOf
   group-starts from to start end h o = record { at = refl; until = h; onward = o }
 
-  group-end : (from to : ℕ) (start end : Float) → groupOf found from to start end .end ≡ end
-  unfolding groupOf grouped
+  group-end : (from to : ℕ) (start end : Float) → groupFrom found from to start end .end ≡ end
+  unfolding groupOf
   group-end from to start end = refl
 
   upto-start : 0 < length found → Upto 0 (cutting [] 0 plusZero)
@@ -50,7 +51,7 @@ module _ (threshold duration : Float) (found : List Estimate) (whole : Modest bi
   upto-more j c h u =
       by-test (Upto (j + 1)) (splits threshold (estimateAt found j) (estimateAt found (j + 1)))
       (λ _. record {
-        tiled = subst (λ (x : Float). Chain plusZero x (c .done ++ (groupOf found (c .from) (j + 1) (c .start) border ∷ []))) (group-end (c .from) (j + 1) (c .start) border) (chain-more plusZero (c .start) (c .done) (groupOf found (c .from) (j + 1) (c .start) border) (u .tiled) (group-starts (c .from) (j + 1) (c .start) border time onward));
+        tiled = subst (λ (x : Float). Chain plusZero x (c .done ++ (groupFrom found (c .from) (j + 1) (c .start) border ∷ []))) (group-end (c .from) (j + 1) (c .start) border) (chain-more plusZero (c .start) (c .done) (groupFrom found (c .from) (j + 1) (c .start) border) (u .tiled) (group-starts (c .from) (j + 1) (c .start) border time onward));
         begun = midpoint-below binary64 here next m m' up;
       })
       (λ _. record { tiled = u .tiled; begun = le-trans (c .start) here next (u .begun) up })
@@ -79,22 +80,21 @@ module _ (threshold duration : Float) (found : List Estimate) (whole : Modest bi
       onward : T (le (c .start) border)
       onward = le-trans (c .start) here border (u .begun) (midpoint-above binary64 here next m m' up)
 
-  upto : (j : ℕ) → j < length found → Upto j (turns (cutTurn threshold found) j 0 (cutting [] 0 plusZero))
+  upto : (j : ℕ) → j < length found → Upto j (cutAt threshold found j)
   unfolding turns
   upto zero h = upto-start h
-  upto (suc j) h = subst (λ (i : ℕ). Upto i (turns (cutTurn threshold found) i 0 (cutting [] 0 plusZero))) (add-one j) (subst (Upto (j + 1)) (sym (turns-last (cutTurn threshold found) j (cutting [] 0 plusZero))) (upto-more j (turns (cutTurn threshold found) j 0 (cutting [] 0 plusZero)) (omega arith) (upto j (omega arith))))
+  upto (suc j) h = subst (λ (i : ℕ). Upto i (cutAt threshold found i)) (add-one j) (subst (Upto (j + 1)) (sym (turns-last (cutTurn threshold found) j (cutting [] 0 plusZero))) (upto-more j (cutAt threshold found j) (omega arith) (upto j (omega arith))))
 
   groups-tiled : 0 < length found → Tiles duration (groupsOf threshold duration found)
-  unfolding groupsOf
   groups-tiled h =
       let j : ℕ = length found - 1 in
       let less : j < length found = omega arith in
-      let c = turns (cutTurn threshold found) j 0 (cutting [] 0 plusZero) in
+      let c = cutAt threshold found j in
       let u = upto j less in
-      let s = groupOf found (c .from) (length found) (c .start) duration in
+      let s = groupFrom found (c .from) (length found) (c .start) duration in
       let last = group-starts (c .from) (length found) (c .start) duration (whole .held) (le-trans (c .start) (centreAt found j) duration (u .begun) (rising .inside j less)) in
       let some : 0 < length (c .done ++ (s ∷ [])) = simp length-append (omega arith) in
-      chain→tiles duration (closed found duration c) some (subst (λ (x : Float). Chain plusZero x (c .done ++ (s ∷ []))) (group-end (c .from) (length found) (c .start) duration) (chain-more plusZero (c .start) (c .done) s (u .tiled) last))
+      rw (groups-loop threshold found duration) (chain→tiles duration (closed found duration c) some (subst (λ (x : Float). Chain plusZero x (c .done ++ (s ∷ []))) (group-end (c .from) (length found) (c .start) duration) (chain-more plusZero (c .start) (c .done) s (u .tiled) last)))
 
 pub groups-tile : GroupsTile
 unfolding firstSegments

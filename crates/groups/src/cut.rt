@@ -5,7 +5,8 @@ ghost use lib.ListN.{length};
 ghost use Rattle.numbers.specs.Sum.{sumOf};
 ghost use Rattle.timeline.specs.Estimates.{Found, lentEstimates, estimatesIn};
 ghost use Rattle.timeline.specs.Segments.{Room, lentSegments, putSegment, filled, standing};
-ghost use Rattle.groups.specs.Groups.{meanOf, grouped, group, groupIn, groupsOf};
+ghost use Rattle.groups.specs.Groups.{meanConfidence, groupsOf};
+ghost use Rattle.groups.specs.Written.{grouped, group, groupIn};
 use majorities::majority::majority_key;
 use splits::split::border_in_rows;
 use splits::split::is_split;
@@ -50,7 +51,7 @@ fn sum_confidences(confidences: &[f32]) -> f32
 // The mean of the confidences.
 fn mean_confidence(confidences: &[f32]) -> f32
     requires { ⌜ length (now confidences) < 2 ^ 32 ⌝ }
-    ensures { λ r. ⌜ r ≡ meanOf (now (confidences .entry)) ⌝ }
+    ensures { λ r. ⌜ r ≡ meanConfidence (now (confidences .entry)) ⌝ }
 {
     let count = confidences.len();
     sum_confidences(confidences) / std::num::nearest_u32_to_f32(count as u32)

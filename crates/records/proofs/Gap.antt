@@ -1,5 +1,5 @@
 -- A gap in a list closes entry by entry: closing what a turn leaves, from the next place on, is closing what it found. So nothing is said of how far the gap has come.
-use mathlib.Core.Path.{_≡_, refl, ap, _∙_}
+use mathlib.Core.Path.{_≡_, refl, sym, ap, _∙_}
 use mathlib.Core.List.{List, [], _∷_, _++_}
 use Prim.Native.Nat.{ℕ, zero, suc, _+_, _-_, _<_, _≤_}
 use native.Mathlib.Nat.{not-suc-le-zero, le-of-suc-le-suc, lt-irrefl}
@@ -9,30 +9,35 @@ use lib.ListN.{length, getD, set, length-set, take, drop}
 use Rattle.timeline.specs.Segments.{emptied, joined, segmentAt}
 use Rattle.timeline.specs.declared.segment.Segment.{Segment}
 use Rattle.shortening.specs.Shorten.{joinAt}
-use Rattle.closing.specs.Closing.{inserted, movedDown}
-use Rattle.records.specs.Records.{copiedDown, joinedRecords}
+use Rattle.records.specs.Steps.{movedDown, copiedDown, joinedRecords}
+use Rattle.shortening.proofs.Settles.{joinAt-first, joinAt-more}
 
 module _ {A : Type 0} where
+  -- the definition, entry by entry
+  moved-first : (count : ℕ) (x y : A) (xs : List A) → movedDown 0 (suc count) x (y ∷ xs) ≡ take count xs ++ (x ∷ drop count xs)
+  unfolding movedDown
+  moved-first count x y xs = refl
+
+  moved-next : (p count : ℕ) (x y : A) (xs : List A) → movedDown (suc p) (suc count) x (y ∷ xs) ≡ y ∷ movedDown p count x xs
+  unfolding movedDown
+  moved-next p count x y xs =
+      let next : suc p + 1 ≡ suc (p + 1) = omega arith in
+      rw next
+
   turn-closes : (j count : ℕ) (x d : A) (l : List A) → suc j < count → count ≤ length l → movedDown (suc j) count x (set l j (getD l (suc j) d)) ≡ movedDown j count x l
-  unfolding movedDown inserted
   turn-closes j zero x d l h k = absurd (not-suc-le-zero h)
   turn-closes j (suc count) x d [] h k = absurd (not-suc-le-zero k)
   turn-closes zero (suc zero) x d (y ∷ l) h k = absurd (lt-irrefl 1 h)
   turn-closes zero (suc (suc count)) x d (y ∷ []) h k = absurd (not-suc-le-zero (le-of-suc-le-suc k))
-  turn-closes zero (suc (suc count)) x d (y ∷ z ∷ l) h k = refl
-  turn-closes (suc j) (suc count) x d (y ∷ l) h k = ap (λ (r : List A). y ∷ r) (turn-closes j count x d l (le-of-suc-le-suc h) (le-of-suc-le-suc k))
+  turn-closes zero (suc (suc count)) x d (y ∷ z ∷ l) h k =
+      moved-next 0 (suc count) x z (z ∷ l) ∙ ap (λ (r : List A). z ∷ r) (moved-first count x z l) ∙ sym (moved-first (suc count) x y (z ∷ l))
+  turn-closes (suc j) (suc count) x d (y ∷ l) h k =
+      moved-next (suc j) count x y _ ∙ ap (λ (r : List A). y ∷ r) (turn-closes j count x d l (le-of-suc-le-suc h) (le-of-suc-le-suc k)) ∙ sym (moved-next j count x y l)
 
   last-closes : (j : ℕ) (x : A) (l : List A) → j < length l → set l j x ≡ movedDown j (suc j) x l
-  unfolding movedDown inserted
   last-closes j x [] h = absurd (not-suc-le-zero h)
-  last-closes zero x (y ∷ l) h = refl
-  last-closes (suc j) x (y ∷ l) h = ap (λ (r : List A). y ∷ r) (last-closes j x l (le-of-suc-le-suc h))
-
-  inserted-between : (n : ℕ) (x : A) (l : List A) → inserted n x l ≡ take n l ++ (x ∷ drop n l)
-  unfolding inserted
-  inserted-between zero x l = refl
-  inserted-between (suc n) x [] = refl
-  inserted-between (suc n) x (y ∷ l) = ap (λ (r : List A). y ∷ r) (inserted-between n x l)
+  last-closes zero x (y ∷ l) h = sym (moved-first 0 x y l)
+  last-closes (suc j) x (y ∷ l) h = ap (λ (r : List A). y ∷ r) (last-closes j x l (le-of-suc-le-suc h)) ∙ sym (moved-next j (suc j) x y l)
 
 -- The records now, with the gap at j: closed, they are what closing the gap at p of those before gives.
 pub record Closing (p count : ℕ) (before : List Segment) (j : ℕ) (now : List Segment) : Type 0 where
@@ -63,13 +68,18 @@ module _ {p count : ℕ} {before : List Segment} {j : ℕ} {now : List Segment} 
 
 -- two that join, as the definition of shortening joins them
 joins : (p count : ℕ) (l : List Segment) → suc p < count → count ≤ length l → movedDown (suc p) count emptied (set l p (joined (segmentAt l p) (segmentAt l (suc p)))) ≡ joinAt p (take count l) ++ (emptied ∷ drop count l)
-unfolding movedDown joinAt
 joins p zero l h k = absurd (not-suc-le-zero h)
 joins p (suc count) [] h k = absurd (not-suc-le-zero k)
 joins zero (suc zero) (s ∷ l) h k = absurd (lt-irrefl 1 h)
 joins zero (suc (suc count)) (s ∷ []) h k = absurd (not-suc-le-zero (le-of-suc-le-suc k))
-joins zero (suc (suc count)) (s ∷ t ∷ l) h k = ap (λ (r : List Segment). joined s t ∷ r) (inserted-between count emptied l)
-joins (suc p) (suc count) (s ∷ l) h k = ap (λ (r : List Segment). s ∷ r) (joins p count l (le-of-suc-le-suc h) (le-of-suc-le-suc k))
+joins zero (suc (suc count)) (s ∷ t ∷ l) h k =
+    moved-next 0 (suc count) emptied (joined s t) (t ∷ l)
+    ∙ ap (λ (r : List Segment). joined s t ∷ r) (moved-first count emptied t l)
+    ∙ ap (λ (r : List Segment). r ++ (emptied ∷ drop count l)) (sym (joinAt-first s t (take count l)))
+joins (suc p) (suc count) (s ∷ l) h k =
+    moved-next (suc p) count emptied s _
+    ∙ ap (λ (r : List Segment). s ∷ r) (joins p count l (le-of-suc-le-suc h) (le-of-suc-le-suc k))
+    ∙ ap (λ (r : List Segment). r ++ (emptied ∷ drop count l)) (sym (joinAt-more p s (take count l)))
 
 pub records-join : (p count : ℕ) (l : List Segment) → p + 1 < count → count ≤ length l → joinedRecords p count l ≡ joinAt p (take count l) ++ (emptied ∷ drop count l)
 records-join p count l h k =

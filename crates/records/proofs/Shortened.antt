@@ -2,7 +2,7 @@
 use mathlib.Core.Path.{_≡_, refl, sym, ap, _∙_}
 use mathlib.Core.Bool.{not}
 use mathlib.Core.List.{List, _∷_, _++_, append-assoc, append-nil}
-use Prim.Native.Nat.{ℕ, zero, suc, _+_, _-_, _<_, _≤_}
+use Prim.Native.Nat.{ℕ, suc, _+_, _-_, _<_, _≤_}
 use native.Mathlib.Omega.{arith}
 use lib.Dec.{T}
 use lib.ListN.{length, take, drop, replicate, length-append, take-append-drop}
@@ -10,18 +10,15 @@ use lib.Seq.{length-take-le, take-append-seam, drop-append-seam}
 use lib.Ieee.{Float}
 use Rattle.timeline.specs.Segments.{emptied}
 use Rattle.timeline.specs.declared.segment.Segment.{Segment}
-use Rattle.shortening.specs.Shorten.{firstShort, keeper, joinAt, joinShort, unsettled, shorten, shortenedOf, leftIn}
-use Rattle.shortening.proofs.Settles.{firstShort-within, keeper-within, joinAt-length, joins-on, joinShort-length, to-join, few-settled, long-settled, shortened-few, left-long, stays}
-use Rattle.records.specs.Records.{Left, left, joinedRecords, shortenedIn}
+use Rattle.shortening.specs.Shorten.{firstShort, keeper, joinAt, joinShort, unsettled, shortenedOf, leftIn}
+use Rattle.shortening.proofs.Settles.{one-more, firstShort-within, keeper-within, joinAt-length, joinShort-length, shortened-join, to-join, few-settled, long-settled, shortened-few, left-long, stays}
+use Rattle.records.specs.Records.{Left, left, shortenedIn}
+use Rattle.records.specs.Steps.{joinedRecords}
 use Rattle.records.proofs.Gap.{records-join}
 
 -- these segments shortened in front of others
 abbrev before : Float → List Segment → List Segment → Left
 before least segments rest = left (length (shortenedOf least segments)) (leftIn least segments ++ rest)
-
-one-more : {A : Type 0} (k : ℕ) (x : A) (rest : List A) → replicate k x ++ (x ∷ rest) ≡ replicate (suc k) x ++ rest
-one-more zero x rest = refl
-one-more (suc k) x rest = ap (λ (l : List _). x ∷ l) (one-more k x rest)
 
 -- a join, and the emptied record behind it
 module _ (least : Float) (segments rest : List Segment) where
@@ -31,7 +28,7 @@ module _ (least : Float) (segments rest : List Segment) where
       let fewer = joinShort least segments in
       let one-less = joinShort-length least segments t in
       let few = shortened-few least fewer in
-      let same : shortenedOf least fewer ≡ shortenedOf least segments = sym (joins-on (length fewer) least segments t) ∙ ap (λ (n : ℕ). shorten n least segments) one-less in
+      let same = shortened-join least segments t in
       let more : suc (length fewer - length (shortenedOf least fewer)) ≡ length segments - length (shortenedOf least fewer) = omega (arith, one-less, few) in
       ap (left (length (shortenedOf least fewer))) (append-assoc (shortenedOf least fewer) (replicate (length fewer - length (shortenedOf least fewer)) emptied) (emptied ∷ rest)
       ∙ ap (λ (l : List Segment). shortenedOf least fewer ++ l) (one-more (length fewer - length (shortenedOf least fewer)) emptied rest ∙ ap (λ (k : ℕ). replicate k emptied ++ rest) more)

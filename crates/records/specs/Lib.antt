@@ -1,2 +1,3 @@
 pub mod Records
+pub mod Steps
 pub mod Same

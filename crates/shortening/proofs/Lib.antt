@@ -1,6 +1,6 @@
 -- What the functions' proofs share, and the theorems on shortening.
-mod Standing
 pub mod Settles
-mod Joins
+mod Apart
+mod Empties
 mod Shortens
 pub mod Tiled

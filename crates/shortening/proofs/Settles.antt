@@ -1,35 +1,65 @@
 -- Each join takes one segment away, so shortening ends by itself: a budget of one join to a segment is never used up, and where several segments are
 -- left none of them is short.
-use mathlib.Core.Path.{_≡_, refl, sym, ap, _∙_}
+use mathlib.Core.Path.{_≡_, refl, sym, ap, subst, _∙_}
+use mathlib.Core.Logic.{inl, inr}
 use Prim.Native.Nat.{ℕ, zero, suc, _+_, _-_, _<_, _≤_}
-use native.Mathlib.Nat.{zero-add, le-of-suc-le-suc, not-suc-le-zero, lt-irrefl}
+use native.Mathlib.Nat.{zero-add}
+use native.Mathlib.Numerals.{add-one}
 use native.Mathlib.Omega.{arith}
 use mathlib.Core.Bool.{Bool, true, false, not, cond}
-use mathlib.Core.List.{List, [], _∷_}
-use lib.ListN.{length, length-append, length-replicate}
+use mathlib.Core.List.{List, _∷_, _++_}
+use lib.ListN.{length, replicate, length-append, length-drop, length-replicate}
+use lib.Seq.{length-take-le}
 use lib.Dec.{T, ltb, eqb, ltb→lt, lt→ltb, nltb→le, T-not, not-T}
 use lib.Ieee.{Float, le}
 use lib.Ieee.Fits.{and-l, and-r, and-i, eq→eqb}
 use lib.Ieee.Bits.{is-false}
-use Rattle.laws.proofs.First.{first-none, first-within}
+use Rattle.laws.specs.First.{first}
+use Rattle.laws.proofs.First.{first-start, first-again, first-out, first-none, first-or-end, first-within}
 use Rattle.laws.proofs.Cases.{by-test}
-use Rattle.timeline.specs.Segments.{seconds, short, segmentAt}
+use Rattle.timeline.specs.Segments.{seconds, short, joined, segmentAt}
 use Rattle.timeline.specs.declared.segment.Segment.{Segment}
 use Rattle.shortening.specs.Shorten.{firstShort, keeper, joinAt, unsettled, joinShort, shorten, shortenedOf, leftIn}
 use Rattle.shortening.specs.Ends.{ShorteningEnds, NoneLeftShort}
+
+-- one more of the same
+pub one-more : {A : Type 0} (k : ℕ) (x : A) (rest : List A) → replicate k x ++ (x ∷ rest) ≡ replicate (suc k) x ++ rest
+one-more zero x rest = refl
+one-more (suc k) x rest = ap (λ (l : List _). x ∷ l) (one-more k x rest)
 
 pub firstShort-within : (least : Float) (segments : List Segment) → firstShort least segments ≤ length segments
 unfolding firstShort
 firstShort-within least segments = rw (zero-add (length segments)) at (first-within (λ (k : ℕ). short least (segmentAt segments k)) (length segments) 0)
 
+-- a short segment with none before it
+pub firstShort-at : (least : Float) (segments : List Segment) (i : ℕ) → i < length segments → ((k : ℕ) → k < i → short least (segmentAt segments k) ≡ false) → short least (segmentAt segments i) ≡ true → firstShort least segments ≡ i
+unfolding firstShort
+firstShort-at least segments i h none here = sym (first-out test (length segments) i (searched i (omega arith) none) h here)
+  where
+    test : ℕ → Bool
+    test k = short least (segmentAt segments k)
+
+    searched : (i : ℕ) → i ≤ length segments → ((k : ℕ) → k < i → test k ≡ false) → first test (length segments - i) i ≡ first test (length segments) 0
+    searched zero h none = first-start test (length segments)
+    searched (suc i) h none =
+        ap (λ (k : ℕ). first test (length segments - k) k) (sym (add-one i)) ∙ first-again test (length segments) i (searched i (omega arith) (λ k less. none k (omega (arith, less)))) (omega arith) (none i (omega arith))
+
+-- ---- a join, segment by segment
+pub joinAt-first : (s t : Segment) (r : List Segment) → joinAt 0 (s ∷ t ∷ r) ≡ joined s t ∷ r
+unfolding joinAt
+joinAt-first s t r = refl
+
+pub joinAt-more : (p : ℕ) (s : Segment) (r : List Segment) → joinAt (suc p) (s ∷ r) ≡ s ∷ joinAt p r
+unfolding joinAt
+joinAt-more p s r =
+    let one : suc p + 1 ≡ suc (p + 1) = omega arith in
+    let two : suc p + 2 ≡ suc (p + 2) = omega arith in
+    rw (one, two)
+
 -- ---- a join takes one segment away
 pub joinAt-length : (p : ℕ) (segments : List Segment) → suc p < length segments → suc (length (joinAt p segments)) ≡ length segments
 unfolding joinAt
-joinAt-length zero [] h = absurd (not-suc-le-zero h)
-joinAt-length zero (s ∷ []) h = absurd (lt-irrefl 1 h)
-joinAt-length zero (s ∷ t ∷ r) h = refl
-joinAt-length (suc p) [] h = absurd (not-suc-le-zero h)
-joinAt-length (suc p) (s ∷ r) h = ap suc (joinAt-length p r (le-of-suc-le-suc h))
+joinAt-length p segments h = simp (length-append, length-drop, length-take-le p segments (omega arith)) (omega arith)
 
 pub keeper-within : (segments : List Segment) (i : ℕ) → 1 < length segments → i < length segments → suc (keeper segments i) < length segments
 unfolding keeper
@@ -67,6 +97,17 @@ module _ (least : Float) (segments : List Segment) where
   unfolding joinShort
   joinShort-length t = joinAt-length (keeper segments (firstShort least segments)) segments (keeper-within segments (firstShort least segments) (several t) (found t))
 
+-- nothing joins where none is short
+pub none-to-join : (least : Float) (segments : List Segment) → ((i : ℕ) → i < length segments → short least (segmentAt segments i) ≡ false) → T (not (unsettled least segments))
+unfolding firstShort
+none-to-join least segments none =
+    not-T (unsettled least segments) (λ t.
+    let there = found least segments t in
+    elim (first-or-end (λ (k : ℕ). short least (segmentAt segments k)) (length segments) 0) [
+      | inl passes ↦ subst T (sym passes ∙ none (firstShort least segments) there) tt
+      | inr end ↦ absurd (omega (arith, there, end))
+    ])
+
 -- ---- what shortening leaves is settled
 fewer : {m n k : ℕ} → suc m ≡ n → n ≤ suc k → m ≤ k
 fewer e h = omega arith
@@ -84,9 +125,14 @@ unfolding shorten
 stays zero least segments t = refl
 stays (suc budget) least segments t = by-test (λ (r : List Segment). r ≡ segments) (unsettled least segments) (λ u. absurd (T-not (unsettled least segments) t u)) (λ _. refl)
 
-pub joins-on : (budget : ℕ) (least : Float) (segments : List Segment) → T (unsettled least segments) → shorten (suc budget) least segments ≡ shorten budget least (joinShort least segments)
+joins-on : (budget : ℕ) (least : Float) (segments : List Segment) → T (unsettled least segments) → shorten (suc budget) least segments ≡ shorten budget least (joinShort least segments)
 unfolding shorten
 joins-on budget least segments t = by-test (λ (r : List Segment). r ≡ shorten budget least (joinShort least segments)) (unsettled least segments) (λ _. refl) (λ u. absurd (T-not (unsettled least segments) u t))
+
+-- what a join leaves becomes what it found
+pub shortened-join : (least : Float) (segments : List Segment) → T (unsettled least segments) → shortenedOf least (joinShort least segments) ≡ shortenedOf least segments
+unfolding shortenedOf
+shortened-join least segments t = sym (joins-on (length (joinShort least segments)) least segments t) ∙ ap (λ (n : ℕ). shorten n least segments) (joinShort-length least segments t)
 
 enough : (budget other : ℕ) (least : Float) (segments : List Segment) → length segments ≤ suc budget → length segments ≤ suc other → shorten budget least segments ≡ shorten other least segments
 unfolding shorten

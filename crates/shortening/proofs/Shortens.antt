@@ -1,155 +1,401 @@
--- Laws of the loop that shortens, which the proof of `shorten_segments` cites, a law for each way out of a turn.
+-- Laws of the loop that shortens, which the proof of `shorten_segments` cites, a law for each way out of a turn. What is kept before the gap and what is
+-- unread behind it become what all segments become; none kept is short but perhaps the last, so that is the first short one.
 use mathlib.Core.Path.{_≡_, refl, sym, ap, subst, _∙_}
-use mathlib.Core.Bool.{not}
-use mathlib.Core.List.{List}
+use mathlib.Core.Logic.{_⊎_, inl, inr}
+use mathlib.Core.Bool.{Bool, true, false, not, _&&_, cond}
+use mathlib.Core.List.{List, [], _∷_, _++_, append-nil}
 use Prim.Native.Nat.{ℕ, suc, _+_, _-_, _<_, _≤_}
-use native.Mathlib.Numerals.{add-one}
+use native.Mathlib.Nat.{eq-or-lt-of-le, add-zero}
 use native.Mathlib.Omega.{arith}
-use lib.Dec.{T}
-use lib.ListN.{length}
-use lib.Ieee.{Float, nan}
+use lib.Dec.{T, eqb}
+use lib.ListN.{length, take, drop, replicate, length-append, length-drop, List·getD-append}
+use lib.Seq.{length-take-le, take-length, take-append-le, drop-at, drop-append-add, drop-cons, drop-drop, drop-length, append-snoc, getD-take, getD-drop, getD-append-add}
+use lib.Ieee.{Float, nan, le}
+use borrow.Author.Tests.{eq-eqb, ne-eqb}
 use Rattle.laws.specs.Front.{list}
-use Rattle.laws.proofs.Front.{list-same, list-own, length-list}
-use Rattle.laws.proofs.Column.{Column}
+use Rattle.laws.proofs.Cases.{by-test}
+use Rattle.laws.proofs.Front.{length-list}
 use Rattle.keys.specs.Numbers.{keyNumber, keyAt}
 use Rattle.keys.proofs.Placed.{numbers-are-keys}
 use Rattle.timeline.specs.Estimates.{Numbered}
-use Rattle.timeline.specs.Segments.{emptied, joined, segment, segmentAt, SegmentRows, segmentIn, segmentsIn, putSegment, holdingSegments, Room, filled}
+use Rattle.timeline.specs.Segments.{emptied, seconds, short, joined, segment, segmentAt, SegmentRows, segmentIn, segmentsIn, putSegment, holdingSegments, Room, Filled, filled}
 use Rattle.timeline.specs.declared.segment.Segment.{Segment}
-use Rattle.timeline.proofs.Segments.{same-rows}
-use Rattle.shortening.specs.Shorten.{firstShort, keeper, joinShort, unsettled, shorten, shortenedOf, leftIn, settled}
-use Rattle.closing.specs.Closing.{closedRows, joinedRows}
-use Rattle.shortening.proofs.Joins.{padded, column-own, column-read, column-join}
-use Rattle.shortening.proofs.Settles.{several, found, joins-on, firstShort-within, keeper-within, joinShort-length, to-join, few-settled, long-settled, stays}
+use Rattle.timeline.proofs.Segments.{segment-there, same-rows}
+use Rattle.shortening.specs.Shorten.{firstShort, keeper, joinAt, joinShort, unsettled, shorten, shortenedOf, leftIn, settled}
+use Rattle.shortening.specs.Gap.{prefersBack, joinsBack, joinedRows, takenIn, emptiedRows}
+use Rattle.shortening.proofs.Settles.{firstShort-at, to-join, few-settled, none-to-join, shortened-join, stays}
+use Rattle.shortening.proofs.Apart.{Apart, apart-start, apart-put, apart-kept, apart-rest, apart-end}
 
--- The loop has come to n segments: they and emptied rows stand in the lent rows, and what is to come makes of them what it makes of the first ones.
-pub record Shortening (least : Float) (count : ℕ) (before now : SegmentRows) (n : ℕ) : Type 0 where
-  pub left : List Segment
-  pub many : length left ≡ n
-  pub few : n ≤ count
-  pub ahead : shorten n least left ≡ shortenedOf least (segmentsIn before count)
+both : (a b : Bool) → (a && b) ≡ true → (a ≡ true) × (b ≡ true)
+both true b e = (refl, e)
+both false true e = (e, refl)
+both false false e = (e, e)
+
+not-both : (a b : Bool) → (a && b) ≡ false → (a ≡ false) ⊎ ((a ≡ true) × (b ≡ false))
+not-both false b e = inl refl
+not-both true b e = inr (refl, e)
+
+-- what a row's place asks
+pub in-room : {rows : SegmentRows} {count i : ℕ} → Room rows count → i < count → (i < length (rows .starts)) × (i < length (rows .ends)) × (i < length (rows .keys)) × (i < length (rows .confidences))
+in-room room h = omega (arith, room)
+
+-- the segment of two rows, put into the first
+pub joined-is : (p : ℕ) (rows : SegmentRows) {earlier later s : Segment} → earlier ≡ segmentIn rows p → later ≡ segmentIn rows (p + 1) → s ≡ joined earlier later → putSegment s p rows ≡ joinedRows p rows
+joined-is p rows e l j = ap (λ (s : Segment). putSegment s p rows) (j ∙ (λ i. joined (e i) (l i)))
+
+-- ---- whether the last one joins the one before it, one law to each answer
+module _ (least : Float) (done next count : ℕ) (rows : SegmentRows) {current : Segment} {flag : Bool} (e : current ≡ segmentIn rows (done - 1)) (f : flag ≡ short least current) where
+  told : flag ≡ short least (segmentIn rows (done - 1))
+  told = f ∙ ap (short least) e
+
+  pub stays-long : not flag ≡ true → false ≡ joinsBack least done next count rows
+  unfolding joinsBack
+  stays-long t = rw (sym told) (go flag t (prefersBack done next count rows))
+    where
+      go : (b : Bool) → not b ≡ true → (c : Bool) → false ≡ (b && c)
+      go true t c = absurd (subst T (sym t) tt)
+      go false t c = refl
+
+  is-short : not flag ≡ false → short least (segmentIn rows (done - 1)) ≡ true
+  is-short t = sym told ∙ go flag t
+    where
+      go : (b : Bool) → not b ≡ false → b ≡ true
+      go true t = refl
+      go false t = sym t
+
+  pub stays-first : not flag ≡ false → done - 1 ≡ 0 → false ≡ joinsBack least done next count rows
+  unfolding joinsBack prefersBack
+  stays-first t first = rw (is-short t, eq-eqb (done - 1) 0 first)
+
+  pub joins-last : not flag ≡ false → (done - 1 ≡ 0 → ⊥) → next ≡ count → true ≡ joinsBack least done next count rows
+  unfolding joinsBack prefersBack
+  joins-last t inner end = rw (is-short t, ne-eqb (done - 1) 0 inner, eq-eqb next count end)
+
+  pub joins-longer : {earlier later : Segment} {a b : Float} → not flag ≡ false → (done - 1 ≡ 0 → ⊥) → (next ≡ count → ⊥) → earlier ≡ segmentIn rows (done - 1 - 1) → a ≡ seconds earlier → later ≡ segmentIn rows next → b ≡ seconds later → le b a ≡ joinsBack least done next count rows
+  unfolding joinsBack prefersBack
+  joins-longer t inner inside before a-is behind b-is =
+      rw (is-short t, ne-eqb (done - 1) 0 inner, ne-eqb next count inside, a-is ∙ ap seconds before, b-is ∙ ap seconds behind)
+
+-- ---- the next one is read, a law to each answer
+module _ (least : Float) (done next : ℕ) (rows : SegmentRows) {current following : Segment} {flag : Bool} {after : SegmentRows} (e : current ≡ segmentIn rows (done - 1)) (n : following ≡ segmentIn rows next) (f : flag ≡ short least current) where
+  pub takes-joined : {x : Segment} → flag ≡ true → x ≡ joined current following → after ≡ putSegment x (done - 1) rows → filled done after ≡ takenIn least done next rows
+  unfolding takenIn
+  takes-joined t x put =
+      let s : short least (segmentIn rows (done - 1)) ≡ true = ap (short least) (sym e) ∙ sym f ∙ t in
+      rw (s, put, x, e, n)
+
+  pub takes-next : flag ≡ false → after ≡ putSegment following done rows → filled (done + 1) after ≡ takenIn least done next rows
+  unfolding takenIn
+  takes-next t put =
+      let s : short least (segmentIn rows (done - 1)) ≡ false = ap (short least) (sym e) ∙ sym f ∙ t in
+      rw (s, put, n)
+
+-- one more at most
+pub taken-few : (least : Float) (done next : ℕ) (rows : SegmentRows) {found : ℕ} {after : SegmentRows} → filled found after ≡ takenIn least done next rows → found ≤ done + 1
+unfolding takenIn
+taken-few least done next rows e =
+    let count = ap (λ (f : Filled). f .count) e in
+    let few : takenIn least done next rows .count ≤ done + 1 = by-test (λ (f : Filled). f .count ≤ done + 1) (short least (segmentIn rows (done - 1))) (λ _. omega arith) (λ _. omega arith) in
+    omega (arith, count, few)
+
+-- no rows, no segments
+pub settled-none : (least : Float) {count : ℕ} (before : SegmentRows) → count ≡ 0 → filled 0 before ≡ settled least (segmentsIn before count) before
+unfolding list shorten shortenedOf leftIn
+settled-none least before e = subst (λ (n : ℕ). filled 0 before ≡ settled least (segmentsIn before n) before) (sym e) refl
+
+-- The loop has come to a gap: `done` segments are kept before it, and those from `next` on are unread.
+pub record Gap (least : Float) (count : ℕ) (before now : SegmentRows) (done next : ℕ) : Type 0 where
+  pub kept : List Segment
+  pub many : length kept ≡ done
+  pub some : 0 < done
+  pub apart : done ≤ next
+  pub upto : next ≤ count
+  pub fine : (i : ℕ) → i + 1 < done → short least (segmentAt kept i) ≡ false
+  pub ahead : shortenedOf least (kept ++ drop next (segmentsIn before count)) ≡ shortenedOf least (segmentsIn before count)
   pub room : Room before count
-  pub starts : Column (λ (s : Segment). s .start) (padded (count - n) left) (before .starts) (now .starts)
-  pub ends : Column (λ (s : Segment). s .end) (padded (count - n) left) (before .ends) (now .ends)
-  pub keys : Column (λ (s : Segment). keyNumber (s .key)) (padded (count - n) left) (before .keys) (now .keys)
-  pub confidences : Column (λ (s : Segment). s .confidence) (padded (count - n) left) (before .confidences) (now .confidences)
+  pub starts : Apart (λ (s : Segment). s .start) kept next (before .starts) (now .starts)
+  pub ends : Apart (λ (s : Segment). s .end) kept next (before .ends) (now .ends)
+  pub keys : Apart (λ (s : Segment). keyNumber (s .key)) kept next (before .keys) (now .keys)
+  pub confidences : Apart (λ (s : Segment). s .confidence) kept next (before .confidences) (now .confidences)
 
-pub shortening-start : (least : Float) {count : ℕ} {before : SegmentRows} → Room before count → Numbered (before .keys) count → Shortening least count before before count
-unfolding shortenedOf segmentIn
-shortening-start least {count} {before} room numbered =
-    let long = length-list (segmentIn before) count in
+pub gap-start : (least : Float) {count : ℕ} {before : SegmentRows} → Room before count → Numbered (before .keys) count → 0 < count → Gap least count before before 1 1
+unfolding segmentIn
+gap-start least {count} {before} room numbered h =
+    let segments = segmentsIn before count in
+    let some : 0 < length segments = rw (length-list (segmentIn before) count) h in
+    let all : segments ≡ segmentIn before 0 ∷ drop 1 segments = drop-cons segments 0 emptied some ∙ ap (λ (s : Segment). s ∷ drop 1 segments) (segment-there before count 0 h) in
     record {
-      left = segmentsIn before count;
-      many = long;
-      few = omega arith;
-      ahead = ap (λ (n : ℕ). shorten n least (segmentsIn before count)) (sym long);
+      kept = segmentIn before 0 ∷ [];
+      many = refl;
+      some = omega arith;
+      apart = omega arith;
+      upto = omega arith;
+      fine = λ i less. absurd (omega (arith, less));
+      ahead = ap (shortenedOf least) (sym all);
       room = room;
-      starts = column-own _ _ _ _ nan (room .starts) (λ k h. refl);
-      ends = column-own _ _ _ _ nan (room .ends) (λ k h. refl);
-      keys = column-own _ _ _ _ 0 (room .keys) (λ k h. numbers-are-keys .number-back _ (numbered k h));
-      confidences = column-own _ _ _ _ nan (room .confidences) (λ k h. refl);
+      starts = apart-start _ _ _ nan (omega (arith, room .starts)) refl;
+      ends = apart-start _ _ _ nan (omega (arith, room .ends)) refl;
+      keys = apart-start _ _ _ 0 (omega (arith, room .keys)) (numbers-are-keys .number-back _ (numbered 0 h));
+      confidences = apart-start _ _ _ nan (omega (arith, room .confidences)) refl;
     }
 
-module _ {least : Float} {count : ℕ} {before now : SegmentRows} {n : ℕ} (s : Shortening least count before now n) where
-  pub now-room : Room now n
+module _ {least : Float} {count : ℕ} {before now : SegmentRows} {done next : ℕ} (g : Gap least count before now done next) where
+  abbrev segments : List Segment
+  segments = segmentsIn before count
+
+  -- the unread ones, and all that are left
+  abbrev rest : List Segment
+  rest = drop next segments
+
+  abbrev all : List Segment
+  all = g .kept ++ rest
+
+  pub now-room : Room now count
   now-room =
-      let few = s .few in
       record {
-        starts = rw (s .starts .long) (omega (arith, few, s .room .starts));
-        ends = rw (s .ends .long) (omega (arith, few, s .room .ends));
-        keys = rw (s .keys .long) (omega (arith, few, s .room .keys));
-        confidences = rw (s .confidences .long) (omega (arith, few, s .room .confidences));
+        starts = rw (g .starts .long) (g .room .starts);
+        ends = rw (g .ends .long) (g .room .ends);
+        keys = rw (g .keys .long) (g .room .keys);
+        confidences = rw (g .confidences .long) (g .room .confidences);
       }
 
-  -- what is read from the rows
-  row-is : (k : ℕ) → k < n → segmentIn now k ≡ segmentAt (s .left) k
+  -- ---- what is read from the rows
+  kept-row : (i : ℕ) → i < done → segmentIn now i ≡ segmentAt (g .kept) i
   unfolding segmentIn
-  row-is k h =
-      let there : k < length (s .left) = omega (arith, s .many) in
-      let start = column-read _ (s .left) (count - n) (s .starts) k nan there in
-      let end = column-read _ (s .left) (count - n) (s .ends) k nan there in
-      let key = ap keyAt (column-read _ (s .left) (count - n) (s .keys) k 0 there) ∙ numbers-are-keys .key-back (segmentAt (s .left) k .key) in
-      let confidence = column-read _ (s .left) (count - n) (s .confidences) k nan there in
-      λ i. segment (start i) (end i) (key i) (confidence i)
+  kept-row i h =
+      let there : i < length (g .kept) = omega (arith, g .many) in
+      let start = apart-kept _ (g .kept) next (g .starts) i nan there in
+      let end = apart-kept _ (g .kept) next (g .ends) i nan there in
+      let key = ap keyAt (apart-kept _ (g .kept) next (g .keys) i 0 there) ∙ numbers-are-keys .key-back (segmentAt (g .kept) i .key) in
+      let confidence = apart-kept _ (g .kept) next (g .confidences) i nan there in
+      λ j. segment (start j) (end j) (key j) (confidence j)
 
-  rows-are : segmentsIn now n ≡ s .left
-  rows-are = list-same (segmentIn now) (segmentAt (s .left)) n row-is ∙ ap (list (segmentAt (s .left))) (sym (s .many)) ∙ list-own (s .left) emptied
+  rest-row : (i : ℕ) → next ≤ i → segmentIn now i ≡ segmentIn before i
+  unfolding segmentIn
+  rest-row i h =
+      let start = apart-rest _ (g .kept) next (g .starts) i nan h in
+      let end = apart-rest _ (g .kept) next (g .ends) i nan h in
+      let key = ap keyAt (apart-rest _ (g .kept) next (g .keys) i 0 h) in
+      let confidence = apart-rest _ (g .kept) next (g .confidences) i nan h in
+      λ j. segment (start j) (end j) (key j) (confidence j)
 
-  -- a short segment's place, and that of the earlier of the two that join
-  pub short-within : {i : ℕ} → i ≡ firstShort least (segmentsIn now n) → (i ≡ n → ⊥) → i < n
-  short-within e inside =
-      let long = length-list (segmentIn now) n in
-      let upto = firstShort-within least (segmentsIn now n) in
-      omega (arith, e, inside, long, upto)
+  segments-long : length segments ≡ count
+  segments-long = length-list (segmentIn before) count
 
-  pub keeper-there : {i p : ℕ} → 1 < n → i < n → p ≡ keeper (segmentsIn now n) i → p + 1 < n
-  keeper-there {i} several h e =
-      let long = length-list (segmentIn now) n in
-      let there = keeper-within (segmentsIn now n) i (rw long several) (rw long h) in
-      omega (arith, e, long, there)
+  all-long : length all ≡ done + (count - next)
+  all-long = simp (length-append, length-drop, segments-long, g .many)
 
-  -- the rows after a join, by the segments that are left
-  join-is : (p : ℕ) → p + 1 < n → joinedRows p n now ≡ closedRows (suc p) (length (s .left)) (putSegment (joined (segmentAt (s .left) p) (segmentAt (s .left) (suc p))) p now)
-  join-is p h =
-      let both : joined (segmentIn now p) (segmentIn now (p + 1)) ≡ joined (segmentAt (s .left) p) (segmentAt (s .left) (suc p)) = ap (λ (e : Segment). joined e (segmentIn now (p + 1))) (row-is p (omega arith)) ∙ ap (joined (segmentAt (s .left) p)) (row-is (p + 1) h ∙ ap (segmentAt (s .left)) (add-one p)) in
-      let put = putSegment (joined (segmentAt (s .left) p) (segmentAt (s .left) (suc p))) p now in
-      ap (λ (t : Segment). closedRows (p + 1) n (putSegment t p now)) both
-      ∙ ap (λ (k : ℕ). closedRows k n put) (add-one p)
-      ∙ ap (λ (k : ℕ). closedRows (suc p) k put) (sym (s .many))
+  at-kept : (i : ℕ) → i < done → segmentAt all i ≡ segmentAt (g .kept) i
+  at-kept i h = List·getD-append (g .kept) rest emptied i (omega (arith, g .many))
 
-  abbrev at : ℕ
-  at = keeper (s .left) (firstShort least (s .left))
+  at-next : next < count → segmentAt all done ≡ segmentIn now next
+  at-next h =
+      let at : done ≡ length (g .kept) + 0 = omega (arith, g .many) in
+      ap (segmentAt all) at
+      ∙ getD-append-add (g .kept) rest 0 emptied
+      ∙ getD-drop next segments 0 emptied
+      ∙ ap (segmentAt segments) (add-zero next)
+      ∙ segment-there before count next h
+      ∙ sym (rest-row next (omega arith))
 
-  one-join : T (unsettled least (s .left)) → Shortening least count before (closedRows (suc at) (length (s .left)) (putSegment (joined (segmentAt (s .left) at) (segmentAt (s .left) (suc at))) at now)) (n - 1)
-  unfolding joinShort
-  one-join t =
-      let left = s .left in
-      let many = s .many in
-      let few = s .few in
-      let more-than-one = several least left t in
-      let there = keeper-within left (firstShort least left) more-than-one (found least left t) in
-      let one-less = joinShort-length least left t in
-      let emptied-more : suc (count - n) ≡ count - (n - 1) = omega (arith, many, few, more-than-one) in
-      let next : suc (n - 1) ≡ n = omega (arith, many, more-than-one) in
+  rest-next : next < count → rest ≡ segmentIn now next ∷ drop (next + 1) segments
+  rest-next h =
+      let there : next < length segments = rw segments-long h in
+      let suc-next : suc next ≡ next + 1 = omega arith in
+      drop-cons segments next emptied there
+      ∙ ap (λ (n : ℕ). segmentAt segments next ∷ drop n segments) suc-next
+      ∙ ap (λ (s : Segment). s ∷ drop (next + 1) segments) (segment-there before count next h ∙ sym (rest-row next (omega arith)))
+
+  -- ---- a segment is put behind the first p
+  gap-put : (p next' : ℕ) (x : Segment) → p ≤ done → p < next' → next ≤ next' → next' ≤ count → ((i : ℕ) → i < p → short least (segmentAt (g .kept) i) ≡ false)
+      → shortenedOf least ((take p (g .kept) ++ (x ∷ [])) ++ drop next' segments) ≡ shortenedOf least all → Gap least count before (putSegment x p now) (p + 1) next'
+  gap-put p next' x h less onward upto fine same =
+      let within : p ≤ length (g .kept) = omega (arith, g .many) in
+      let long = length-take-le p (g .kept) within in
       record {
-        left = joinShort least left;
-        many = omega (arith, one-less, many);
-        few = omega (arith, few);
-        ahead = sym (joins-on (n - 1) least left t) ∙ ap (λ (k : ℕ). shorten k least left) next ∙ s .ahead;
-        room = s .room;
-        starts = column-join _ left (count - n) (s .starts) at there emptied-more (omega (arith, many, few, s .room .starts));
-        ends = column-join _ left (count - n) (s .ends) at there emptied-more (omega (arith, many, few, s .room .ends));
-        keys = column-join _ left (count - n) (s .keys) at there emptied-more (omega (arith, many, few, s .room .keys));
-        confidences = column-join _ left (count - n) (s .confidences) at there emptied-more (omega (arith, many, few, s .room .confidences));
+        kept = take p (g .kept) ++ (x ∷ []);
+        many = length-append (take p (g .kept)) (x ∷ []) ∙ ap (λ (n : ℕ). n + 1) long;
+        some = omega arith;
+        apart = omega arith;
+        upto = upto;
+        fine = λ i k. let i-less : i < p = omega (arith, k) in ap (short least) (List·getD-append (take p (g .kept)) (x ∷ []) emptied i (rw long i-less) ∙ getD-take p (g .kept) i emptied i-less) ∙ fine i i-less;
+        ahead = same ∙ g .ahead;
+        room = g .room;
+        starts = apart-put _ (g .kept) next (g .starts) p next' x within less onward (omega (arith, g .room .starts));
+        ends = apart-put _ (g .kept) next (g .ends) p next' x within less onward (omega (arith, g .room .ends));
+        keys = apart-put _ (g .kept) next (g .keys) p next' x within less onward (omega (arith, g .room .keys));
+        confidences = apart-put _ (g .kept) next (g .confidences) p next' x within less onward (omega (arith, g .room .confidences));
       }
 
-  pub shortening-more : {i p : ℕ} {after : SegmentRows} → 1 < n → i ≡ firstShort least (segmentsIn now n) → (i ≡ n → ⊥) → p ≡ keeper (segmentsIn now n) i → after ≡ joinedRows p n now → Shortening least count before after (n - 1)
-  shortening-more {i} {p} many-left e inside k join =
-      let left = s .left in
-      let many = s .many in
-      let first : i ≡ firstShort least left = e ∙ ap (firstShort least) rows-are in
-      let place : p ≡ at = k ∙ ap (keeper (segmentsIn now n)) first ∙ ap (λ (l : List Segment). keeper l (firstShort least left)) rows-are in
-      let i-there = short-within e inside in
-      let p-there = keeper-there many-left i-there k in
-      let joined-rows = join ∙ join-is p p-there ∙ ap (λ (q : ℕ). closedRows (suc q) (length left) (putSegment (joined (segmentAt left q) (segmentAt left (suc q))) q now)) place in
-      subst (λ (r : SegmentRows). Shortening least count before r (n - 1)) (sym joined-rows) (one-join (to-join least left (omega (arith, many)) (omega (arith, many, first, i-there))))
+  -- ---- the last one kept
+  abbrev last : ℕ
+  last = done - 1
+
+  last-is : segmentIn now last ≡ segmentAt (g .kept) last
+  last-is = kept-row last (omega (arith, g .some))
+
+  first-is : short least (segmentIn now last) ≡ true → firstShort least all ≡ last
+  first-is t =
+      let some = g .some in
+      firstShort-at least all last (omega (arith, all-long)) (λ k less. ap (short least) (at-kept k (omega (arith, less))) ∙ g .fine k (omega (arith, less))) (ap (short least) (at-kept last (omega arith) ∙ sym last-is) ∙ t)
+
+  -- which of the two that join is the earlier
+  abbrev seconds-back : Bool
+  seconds-back = le (seconds (segmentIn now next)) (seconds (segmentIn now (last - 1)))
+
+  keeper-inner : 0 < last → keeper all last ≡ cond (cond (eqb next count) true seconds-back) (last - 1) last
+  unfolding keeper
+  keeper-inner inner =
+      let not-first : eqb last 0 ≡ false = ne-eqb last 0 (λ z. omega (arith, z)) in
+      let long = all-long in
+      elim (eq-or-lt-of-le (g .upto)) [
+        | inl end ↦ let full : last + 1 ≡ length all = omega (arith, end, long) in rw (not-first, eq-eqb (last + 1) (length all) full, eq-eqb next count end)
+        | inr more ↦
+            let next-there : last + 1 ≡ done = omega arith in
+            let later : segmentAt all (last + 1) ≡ segmentIn now next = ap (segmentAt all) next-there ∙ at-next more in
+            let earlier : segmentAt all (last - 1) ≡ segmentIn now (last - 1) = at-kept (last - 1) (omega arith) ∙ sym (kept-row (last - 1) (omega arith)) in
+            rw (not-first, ne-eqb (last + 1) (length all) (λ z. omega (arith, z, more, long)), ne-eqb next count (λ z. omega (arith, z, more)), later, earlier)
+      ]
+
+  keeper-is : keeper all last ≡ cond (prefersBack done next count now) (last - 1) last
+  unfolding keeper prefersBack
+  keeper-is =
+      let low : 0 ≤ last = omega arith in
+      elim (eq-or-lt-of-le low) [
+        | inl first ↦ rw (eq-eqb last 0 (sym first)) first
+        | inr inner ↦ keeper-inner inner ∙ rw (ne-eqb last 0 (λ z. omega (arith, z, inner)))
+      ]
+
+  has-before : prefersBack done next count now ≡ true → 0 < last
+  unfolding prefersBack
+  has-before b =
+      let low : 0 ≤ last = omega arith in
+      elim (eq-or-lt-of-le low) [
+        | inl first ↦ absurd (subst T (sym (rw (eq-eqb last 0 (sym first)) at b)) tt)
+        | inr inner ↦ inner
+      ]
+
+  has-none : prefersBack done next count now ≡ false → next ≡ count → last ≡ 0
+  unfolding prefersBack
+  has-none b end =
+      let low : 0 ≤ last = omega arith in
+      elim (eq-or-lt-of-le low) [
+        | inl first ↦ sym first
+        | inr inner ↦ absurd (subst T (rw (ne-eqb last 0 (λ z. omega (arith, z, inner)), eq-eqb next count end) at b) tt)
+      ]
+
+  pub back-two : {flag : Bool} → flag ≡ joinsBack least done next count now → flag ≡ true → 2 ≤ done
+  unfolding joinsBack
+  back-two f t = let inner = has-before (both (short least (segmentIn now last)) (prefersBack done next count now) (sym f ∙ t) .1) in omega arith
+
+  room-of : (n : ℕ) → n ≤ count → Room now n
+  room-of n h =
+      let room = now-room in
+      record { starts = omega (arith, room .starts); ends = omega (arith, room .ends); keys = omega (arith, room .keys); confidences = omega (arith, room .confidences) }
+
+  pub back-room : {flag : Bool} → flag ≡ joinsBack least done next count now → flag ≡ true → Room now (last - 1 + 2)
+  back-room f t = let two = back-two f t in room-of (last - 1 + 2) (omega (arith, g .apart, g .upto))
+
+  pub more-room : (next ≡ count → ⊥) → Room now (next + 1)
+  more-room inside = room-of (next + 1) (omega (arith, inside, g .upto))
+
+  -- what a join leaves becomes what all become
+  join-same : (p : ℕ) {left : List Segment} → short least (segmentIn now last) ≡ true → 1 < length all → keeper all last ≡ p → joinAt p all ≡ left → shortenedOf least left ≡ shortenedOf least all
+  unfolding joinShort
+  join-same p s several k e =
+      let first = first-is s in
+      let there : firstShort least all < length all = omega (arith, first, all-long, g .some) in
+      ap (shortenedOf least) (sym (ap (λ (i : ℕ). joinAt (keeper all i) all) first ∙ ap (λ (q : ℕ). joinAt q all) k ∙ e)) ∙ shortened-join least all (to-join least all several there)
+
+  joined-back : (p : ℕ) → p + 2 ≡ done → joinAt p all ≡ (take p (g .kept) ++ (joined (segmentIn now p) (segmentIn now (p + 1)) ∷ [])) ++ rest
+  unfolding joinAt
+  joined-back p e =
+      let first : segmentAt all p ≡ segmentIn now p = at-kept p (omega arith) ∙ sym (kept-row p (omega arith)) in
+      let second : segmentAt all (p + 1) ≡ segmentIn now (p + 1) = at-kept (p + 1) (omega arith) ∙ sym (kept-row (p + 1) (omega arith)) in
+      rw (first, second, take-append-le p (g .kept) rest (omega (arith, g .many)), drop-at (g .kept) rest (p + 2) (g .many ∙ sym e)) (sym (append-snoc (take p (g .kept)) (joined (segmentIn now p) (segmentIn now (p + 1))) rest))
+
+  joined-on : next < count → joinAt last all ≡ (take last (g .kept) ++ (joined (segmentIn now last) (segmentIn now next) ∷ [])) ++ drop (next + 1) segments
+  unfolding joinAt
+  joined-on more =
+      let some = g .some in
+      let many = g .many in
+      let first : segmentAt all last ≡ segmentIn now last = at-kept last (omega arith) ∙ sym last-is in
+      let at : last + 1 ≡ done = omega arith in
+      let second : segmentAt all (last + 1) ≡ segmentIn now next = ap (segmentAt all) at ∙ at-next more in
+      let behind : last + 2 ≡ length (g .kept) + 1 = omega arith in
+      let unread : drop (last + 2) all ≡ drop (next + 1) segments = ap (λ (n : ℕ). drop n all) behind ∙ drop-append-add (g .kept) rest 1 ∙ drop-drop 1 next segments in
+      rw (first, second, take-append-le last (g .kept) rest (omega arith), unread) (sym (append-snoc (take last (g .kept)) (joined (segmentIn now last) (segmentIn now next)) (drop (next + 1) segments)))
+
+  -- none is short where the last one isn't
+  fine-last : short least (segmentIn now last) ≡ false → (i : ℕ) → i < done → short least (segmentAt (g .kept) i) ≡ false
+  fine-last long i h =
+      let low : i ≤ last = omega arith in
+      elim (eq-or-lt-of-le low) [
+        | inl same ↦ ap (λ (k : ℕ). short least (segmentAt (g .kept) k)) same ∙ ap (short least) (sym last-is) ∙ long
+        | inr less ↦ g .fine i (omega (arith, less))
+      ]
+
+  -- ---- the ways through a turn
+  pub gap-back : {flag : Bool} {p : ℕ} {after : SegmentRows} → flag ≡ joinsBack least done next count now → flag ≡ true → p ≡ last - 1 → after ≡ joinedRows p now → Gap least count before after last next
+  unfolding joinsBack
+  gap-back {p = p} {after = after} f t e put =
+      let (s, b) = both (short least (segmentIn now last)) (prefersBack done next count now) (sym f ∙ t) in
+      let inner = has-before b in
+      let apart = g .apart in
+      let two : p + 2 ≡ done = omega arith in
+      let one : p + 1 ≡ last = omega arith in
+      let keeps : keeper all last ≡ p = keeper-is ∙ ap (λ (c : Bool). cond c (last - 1) last) b ∙ sym e in
+      let x = joined (segmentIn now p) (segmentIn now (p + 1)) in
+      let same = join-same p s (omega (arith, all-long)) keeps (joined-back p two) in
+      let more = gap-put p next x (omega arith) (omega arith) (omega arith) (g .upto) (λ i less. g .fine i (omega (arith, less))) same in
+      subst (λ (n : ℕ). Gap least count before after n next) one (subst (λ (r : SegmentRows). Gap least count before r (p + 1) next) (sym put) more)
+
+  pub gap-more : {flag : Bool} {found : ℕ} {after : SegmentRows} → flag ≡ joinsBack least done next count now → flag ≡ false → (next ≡ count → ⊥) → filled found after ≡ takenIn least done next now → Gap least count before after found (next + 1)
+  unfolding joinsBack takenIn
+  gap-more {found = found} {after = after} f t inside e =
+      let upto = g .upto in
+      let more : next < count = omega (arith, inside) in
+      elim (not-both (short least (segmentIn now last)) (prefersBack done next count now) (sym f ∙ t)) [
+        | inl long ↦ subst (λ (f : Filled). Gap least count before (f .rows) (f .count) (next + 1)) (sym (rw long at e)) (reads long more)
+        | inr joins ↦ subst (λ (f : Filled). Gap least count before (f .rows) (f .count) (next + 1)) (sym (rw (joins .0) at e)) (goes-on (joins .0) (joins .1) more)
+      ]
+    where
+      reads : short least (segmentIn now last) ≡ false → next < count → Gap least count before (putSegment (segmentIn now next) done now) (done + 1) (next + 1)
+      reads long more =
+          let same : (take done (g .kept) ++ (segmentIn now next ∷ [])) ++ drop (next + 1) segments ≡ all = append-snoc (take done (g .kept)) (segmentIn now next) (drop (next + 1) segments) ∙ ap (λ (l : List Segment). take done (g .kept) ++ l) (sym (rest-next more)) ∙ ap (λ (l : List Segment). l ++ rest) (ap (λ (n : ℕ). take n (g .kept)) (sym (g .many)) ∙ take-length (g .kept)) in
+          gap-put done (next + 1) (segmentIn now next) (omega arith) (omega (arith, g .apart)) (omega arith) (omega arith) (fine-last long) (ap (shortenedOf least) same)
+
+      goes-on : short least (segmentIn now last) ≡ true → prefersBack done next count now ≡ false → next < count → Gap least count before (putSegment (joined (segmentIn now last) (segmentIn now next)) last now) done (next + 1)
+      goes-on s b more =
+          let some = g .some in
+          let apart = g .apart in
+          let one : last + 1 ≡ done = omega arith in
+          let keeps : keeper all last ≡ last = keeper-is ∙ ap (λ (c : Bool). cond c (last - 1) last) b in
+          let same = join-same last s (omega (arith, all-long)) keeps (joined-on more) in
+          subst (λ (n : ℕ). Gap least count before (putSegment (joined (segmentIn now last) (segmentIn now next)) last now) n (next + 1)) one
+          (gap-put last (next + 1) (joined (segmentIn now last) (segmentIn now next)) (omega arith) (omega arith) (omega arith) (omega arith) (λ i less. g .fine i (omega (arith, less))) same)
 
   -- ---- the end
-  end-at : T (not (unsettled least (s .left))) → filled n now ≡ settled least (segmentsIn before count) before
-  unfolding leftIn
-  end-at t =
-      let first = segmentsIn before count in
-      let last : s .left ≡ shortenedOf least first = sym (stays n least (s .left) t) ∙ s .ahead in
-      let rows : now ≡ holdingSegments (padded (count - n) (s .left)) before = same-rows (s .starts .here) (s .ends .here) (s .keys .here) (s .confidences .here) in
-      let behind : count - n ≡ length first - length (s .left) = omega (arith, length-list (segmentIn before) count, s .many) in
-      ap (filled n) (rows ∙ ap (λ (k : ℕ). holdingSegments (padded k (s .left)) before) behind)
-      ∙ ap (λ (k : ℕ). filled k (holdingSegments (padded (length first - length (s .left)) (s .left)) before)) (sym (s .many))
-      ∙ ap (λ (l : List Segment). filled (length l) (holdingSegments (padded (length first - length l) l) before)) last
+  all-read : next ≡ count → all ≡ g .kept
+  all-read end = ap (λ (n : ℕ). g .kept ++ drop n segments) (end ∙ sym segments-long) ∙ ap (λ (l : List Segment). g .kept ++ l) (drop-length segments) ∙ append-nil (g .kept)
 
-  pub shortening-few : n ≤ 1 → filled n now ≡ settled least (segmentsIn before count) before
-  shortening-few h = end-at (few-settled least (s .left) (omega (arith, s .many)))
+  nothing-left : joinsBack least done next count now ≡ false → next ≡ count → T (not (unsettled least (g .kept)))
+  unfolding joinsBack
+  nothing-left t end =
+      elim (not-both (short least (segmentIn now last)) (prefersBack done next count now) t) [
+        | inl long ↦ none-to-join least (g .kept) (λ i h. fine-last long i (omega (arith, h, g .many)))
+        | inr joins ↦ let one = has-none (joins .1) end in few-settled least (g .kept) (omega (arith, one, g .many, g .some))
+      ]
 
-  pub shortening-done : {i : ℕ} → i ≡ firstShort least (segmentsIn now n) → i ≡ n → filled n now ≡ settled least (segmentsIn before count) before
-  shortening-done e all =
-      let far : firstShort least (segmentsIn now n) ≡ firstShort least (s .left) = ap (firstShort least) rows-are in
-      end-at (long-settled least (s .left) (omega (arith, s .many, far)))
+  pub gap-end : {flag : Bool} {after : SegmentRows} → flag ≡ joinsBack least done next count now → flag ≡ false → next ≡ count → after ≡ emptiedRows done count now → filled done after ≡ settled least segments before
+  unfolding leftIn shortenedOf
+  gap-end f t end put =
+      let kept = g .kept in
+      let ready : length kept ≤ next = omega (arith, g .many, g .apart) in
+      let full : next ≡ length segments = end ∙ sym segments-long in
+      let same : kept ≡ shortenedOf least segments = sym (stays (length kept) least kept (nothing-left (sym f ∙ t) end)) ∙ ap (shortenedOf least) (sym (all-read end)) ∙ g .ahead in
+      let rows : emptiedRows (length kept) next now ≡ holdingSegments (kept ++ replicate (next - length kept) emptied) before = same-rows (apart-end _ kept next (g .starts) ready) (apart-end _ kept next (g .ends) ready) (apart-end _ kept next (g .keys) ready) (apart-end _ kept next (g .confidences) ready) in
+      ap (filled done) (put ∙ ap (λ (n : ℕ). emptiedRows n count now) (sym (g .many)) ∙ ap (λ (n : ℕ). emptiedRows (length kept) n now) (sym end) ∙ rows)
+      ∙ ap (λ (n : ℕ). filled n (holdingSegments (kept ++ replicate (next - length kept) emptied) before)) (sym (g .many))
+      ∙ ap (λ (n : ℕ). filled (length kept) (holdingSegments (kept ++ replicate (n - length kept) emptied) before)) full
+      ∙ ap (λ (l : List Segment). filled (length l) (holdingSegments (l ++ replicate (length segments - length l) emptied) before)) same

@@ -1,6 +1,7 @@
 -- A join keeps the chain in which each segment starts where the one before it ends, so shortening does.
 use mathlib.Core.Path.{_≡_}
-use Prim.Native.Nat.{ℕ, zero, suc}
+use Prim.Native.Nat.{ℕ, zero, suc, _<_}
+use native.Mathlib.Nat.{not-suc-le-zero, le-of-suc-le-suc, lt-irrefl}
 use mathlib.Core.List.{List, [], _∷_}
 use lib.ListN.{length}
 use lib.Ieee.{Float, binary64}
@@ -13,7 +14,7 @@ use Rattle.timeline.specs.declared.segment.Segment.{Segment}
 use Rattle.timeline.proofs.Tilings.{Starts, Chain, chain→tiles, tiles→chain}
 use Rattle.shortening.specs.Shorten.{firstShort, keeper, joinAt, joinShort, shortenedOf}
 use Rattle.shortening.specs.Ends.{ShorteningTiles}
-use Rattle.shortening.proofs.Settles.{shorten-keeps, some-left}
+use Rattle.shortening.proofs.Settles.{joinAt-first, joinAt-more, keeper-within, several, found, shorten-keeps, some-left}
 
 -- ---- a join
 joined-end : (from : Float) (s t : Segment) → Starts from s → Starts (s .end) t → joined s t .end ≡ t .end
@@ -30,17 +31,17 @@ joined-starts from s t h p q =
       onward = rw e (le-trans from (s .end) (t .end) (p .onward) (q .onward));
     }
 
-joinAt-chain : (p : ℕ) (from to : Float) (segments : List Segment) → Held binary64 from → Chain from to segments → Chain from to (joinAt p segments)
-unfolding joinAt
-joinAt-chain zero from to [] h c = c
-joinAt-chain zero from to (s ∷ []) h c = c
-joinAt-chain zero from to (s ∷ t ∷ r) h c = (joined-starts from s t h (c .0) (c .1 .0), rw (joined-end from s t (c .0) (c .1 .0)) (c .1 .1))
-joinAt-chain (suc p) from to [] h c = c
-joinAt-chain (suc p) from to (s ∷ r) h c = (c .0, joinAt-chain p (s .end) to r (c .0 .until) (c .1))
+joinAt-chain : (p : ℕ) (from to : Float) (segments : List Segment) → suc p < length segments → Held binary64 from → Chain from to segments → Chain from to (joinAt p segments)
+joinAt-chain p from to [] k h c = absurd (not-suc-le-zero k)
+joinAt-chain zero from to (s ∷ []) k h c = absurd (lt-irrefl 1 k)
+joinAt-chain zero from to (s ∷ t ∷ r) k h c =
+    rw (joinAt-first s t r) (joined-starts from s t h (c .0) (c .1 .0), rw (joined-end from s t (c .0) (c .1 .0)) (c .1 .1))
+joinAt-chain (suc p) from to (s ∷ r) k h c = rw (joinAt-more p s r) (c .0, joinAt-chain p (s .end) to r (le-of-suc-le-suc k) (c .0 .until) (c .1))
 
 shortened-chain : (least from to : Float) (segments : List Segment) → Held binary64 from → Chain from to segments → Chain from to (shortenedOf least segments)
 unfolding shortenedOf joinShort
-shortened-chain least from to segments h = shorten-keeps (Chain from to) least (λ r _ c. joinAt-chain (keeper r (firstShort least r)) from to r h c) (length segments) segments
+shortened-chain least from to segments h =
+    shorten-keeps (Chain from to) least (λ r t c. joinAt-chain (keeper r (firstShort least r)) from to r (keeper-within r (firstShort least r) (several least r t) (found least r t)) h c) (length segments) segments
 
 pub shortening-tiles : ShorteningTiles
 shortening-tiles least duration segments t =

@@ -1,2 +1,3 @@
 pub mod Shorten
 pub mod Ends
+pub mod Gap

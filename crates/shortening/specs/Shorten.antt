@@ -1,8 +1,8 @@
 -- Shortening, written from the Rust's `merge_short_segments`: while several are left, the first that is shorter than the minimum joins a neighbour. Definitions only.
 use Prim.Native.Nat.{ℕ, zero, suc, _+_, _-_}
 use mathlib.Core.Bool.{Bool, _&&_, cond}
-use mathlib.Core.List.{List, [], _∷_, _++_}
-use lib.ListN.{length, replicate}
+use mathlib.Core.List.{List, _∷_, _++_}
+use lib.ListN.{length, take, drop, replicate}
 use lib.Dec.{ltb, eqb}
 use lib.Ieee.{Float, le}
 use Rattle.laws.specs.First.{first}
@@ -20,13 +20,9 @@ keeper segments i =
     (cond (eqb (i + 1) (length segments)) (i - 1)
     (cond (le (seconds (segmentAt segments (i + 1))) (seconds (segmentAt segments (i - 1)))) (i - 1) i))
 
--- the segments p and p + 1 joined
+-- the segments p and p + 1 joined: those before p, the two as one, and those from p + 2 on
 unfoldable pub joinAt : ℕ → List Segment → List Segment
-joinAt zero [] = []
-joinAt zero (s ∷ []) = s ∷ []
-joinAt zero (s ∷ t ∷ r) = joined s t ∷ r
-joinAt (suc p) [] = []
-joinAt (suc p) (s ∷ r) = s ∷ joinAt p r
+joinAt p segments = take p segments ++ (joined (segmentAt segments p) (segmentAt segments (p + 1)) ∷ drop (p + 2) segments)
 
 -- several segments, and a short one among them
 unfoldable pub unsettled : Float → List Segment → Bool

@@ -1,61 +1,116 @@
 // Shortening: while several segments are left, the first that is shorter than the minimum joins a neighbour.
+// No segment before the first short one is short, so the search never goes back: rows before a gap are settled but perhaps for the last, and rows behind
+// it are unread.
 ghost use mathlib.Core.Path.{_≡_};
-ghost use Prim.Native.Nat.{_+_, _<_};
+ghost use Prim.Native.Nat.{_+_, _<_, _≤_};
 ghost use Rattle.timeline.specs.Estimates.{Numbered};
 ghost use Rattle.timeline.specs.Segments.{Room, lentSegments, segmentsIn, filled};
-ghost use Rattle.shortening.specs.Shorten.{firstShort, keeper, settled};
-use closing::gap::join_rows;
+ghost use Rattle.shortening.specs.Shorten.{settled};
+ghost use Rattle.shortening.specs.Gap.{joinsBack, joinedRows, takenIn, emptiedRows};
+use timeline::segment::emptied_segment;
 use timeline::segment::is_short;
+use timeline::segment::join_segments;
+use timeline::segment::put_segment;
 use timeline::segment::segment_at;
 use timeline::segment::segment_seconds;
 
-// Where the first short segment stands: the count where none is short.
-fn first_short(
+// Whether the last of the first `done` segments is short and joins the one before it; `next` is the row of the one behind it.
+fn joins_back(
     least: f64,
+    done: usize,
+    next: usize,
     count: usize,
     starts: &[f64],
     ends: &[f64],
     keys: &[u8],
     confidences: &[f32],
-) -> usize
-    requires { ⌜ Room (lentSegments starts ends keys confidences) count ⌝ }
-    ensures { λ r. ⌜ r ≡ firstShort least (segmentsIn (lentSegments (starts .entry) (ends .entry) (keys .entry) (confidences .entry)) count) ⌝ }
+) -> bool
+    requires { ⌜ (0 < done) × (done ≤ next) × (next ≤ count) × Room (lentSegments starts ends keys confidences) count ⌝ }
+    ensures { λ r. ⌜ r ≡ joinsBack least done next count (lentSegments (starts .entry) (ends .entry) (keys .entry) (confidences .entry)) ⌝ }
 {
-    let mut i = 0;
-    loop {
-        if i >= count {
-            break count;
-        }
-        if is_short(least, segment_at(i, starts, ends, keys, confidences)) {
-            break i;
-        }
-        i += 1;
+    let last = done - 1;
+    let current = segment_at(last, starts, ends, keys, confidences);
+    if !is_short(least, current) {
+        return false;
     }
+    if last == 0 {
+        return false;
+    }
+    if next == count {
+        return true;
+    }
+    let before = last - 1;
+    let earlier = segment_seconds(segment_at(before, starts, ends, keys, confidences));
+    let later = segment_seconds(segment_at(next, starts, ends, keys, confidences));
+    later <= earlier
 }
 
-// The earlier of the two that join where segment i is short.
-fn keeper_of(
-    i: usize,
-    count: usize,
-    starts: &[f64],
-    ends: &[f64],
-    keys: &[u8],
-    confidences: &[f32],
-) -> usize
-    requires { ⌜ (i < count) × Room (lentSegments starts ends keys confidences) count ⌝ }
-    ensures { λ r. ⌜ r ≡ keeper (segmentsIn (lentSegments (starts .entry) (ends .entry) (keys .entry) (confidences .entry)) count) i ⌝ }
+// The segments in the rows p and p + 1 become one, in row p.
+fn join_rows(
+    p: usize,
+    starts: &mut [f64],
+    ends: &mut [f64],
+    keys: &mut [u8],
+    confidences: &mut [f32],
+)
+    requires { ⌜ Room (lentSegments starts ends keys confidences) (p + 2) ⌝ }
+    ensures { λ _. ⌜ lentSegments (starts .exit) (ends .exit) (keys .exit) (confidences .exit) ≡ joinedRows p (lentSegments (starts .entry) (ends .entry) (keys .entry) (confidences .entry)) ⌝ }
 {
-    if i == 0 {
-        return 0;
+    let next = p + 1;
+    let earlier = segment_at(p, starts, ends, keys, confidences);
+    let later = segment_at(next, starts, ends, keys, confidences);
+    put_segment(
+        join_segments(earlier, later),
+        p,
+        starts,
+        ends,
+        keys,
+        confidences,
+    );
+}
+
+// The segment in row `next` joins the last of the first `done` where that is short, and else stands behind it; returns how many there are then.
+fn take_in(
+    least: f64,
+    done: usize,
+    next: usize,
+    starts: &mut [f64],
+    ends: &mut [f64],
+    keys: &mut [u8],
+    confidences: &mut [f32],
+) -> usize
+    requires { ⌜ (0 < done) × (done ≤ next) × Room (lentSegments starts ends keys confidences) (next + 1) ⌝ }
+    ensures { λ r. ⌜ filled r (lentSegments (starts .exit) (ends .exit) (keys .exit) (confidences .exit)) ≡ takenIn least done next (lentSegments (starts .entry) (ends .entry) (keys .entry) (confidences .entry)) ⌝ }
+{
+    let last = done - 1;
+    let current = segment_at(last, starts, ends, keys, confidences);
+    let following = segment_at(next, starts, ends, keys, confidences);
+    if is_short(least, current) {
+        let both = join_segments(current, following);
+        put_segment(both, last, starts, ends, keys, confidences);
+        return done;
     }
-    let before = i - 1;
-    let after = i + 1;
-    if after == count {
-        return before;
+    put_segment(following, done, starts, ends, keys, confidences);
+    done + 1
+}
+
+// The rows from `from` up to `count` are emptied.
+fn empty_rows(
+    from: usize,
+    count: usize,
+    starts: &mut [f64],
+    ends: &mut [f64],
+    keys: &mut [u8],
+    confidences: &mut [f32],
+)
+    requires { ⌜ (from ≤ count) × Room (lentSegments starts ends keys confidences) count ⌝ }
+    ensures { λ _. ⌜ lentSegments (starts .exit) (ends .exit) (keys .exit) (confidences .exit) ≡ emptiedRows from count (lentSegments (starts .entry) (ends .entry) (keys .entry) (confidences .entry)) ⌝ }
+{
+    let mut i = from;
+    while i < count {
+        put_segment(emptied_segment(), i, starts, ends, keys, confidences);
+        i += 1;
     }
-    let earlier = segment_seconds(segment_at(before, starts, ends, keys, confidences));
-    let later = segment_seconds(segment_at(after, starts, ends, keys, confidences));
-    if later <= earlier { before } else { i }
 }
 
 // The Rust's `merge_short_segments`: joins in the first `count` rows, and returns how many segments are left.
@@ -70,15 +125,23 @@ pub fn shorten_segments(
     requires { ⌜ Room (lentSegments starts ends keys confidences) count × Numbered (now keys) count ⌝ }
     ensures { λ r. ⌜ filled r (lentSegments (starts .exit) (ends .exit) (keys .exit) (confidences .exit)) ≡ settled least (segmentsIn (lentSegments (starts .entry) (ends .entry) (keys .entry) (confidences .entry)) count) (lentSegments (starts .entry) (ends .entry) (keys .entry) (confidences .entry)) ⌝ }
 {
-    let mut left = count;
-    while left > 1 {
-        let i = first_short(least, left, starts, ends, keys, confidences);
-        if i == left {
-            return left;
-        }
-        let p = keeper_of(i, left, starts, ends, keys, confidences);
-        join_rows(p, left, starts, ends, keys, confidences);
-        left = left - 1;
+    if count == 0 {
+        return 0;
     }
-    left
+    let mut done = 1;
+    let mut next = 1;
+    loop {
+        if joins_back(least, done, next, count, starts, ends, keys, confidences) {
+            done = done - 1;
+            join_rows(done - 1, starts, ends, keys, confidences);
+        } else {
+            if next == count {
+                break;
+            }
+            done = take_in(least, done, next, starts, ends, keys, confidences);
+            next = next + 1;
+        }
+    }
+    empty_rows(done, count, starts, ends, keys, confidences);
+    done
 }

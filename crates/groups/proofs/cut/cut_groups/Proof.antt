@@ -6,7 +6,7 @@ use native.Mathlib.Omega.{arith}
 use lib.Ieee.{ofBits}
 use Rattle.timeline.specs.Estimates.{estimateRows}
 use Rattle.timeline.specs.Segments.{segmentRows, putSegment}
-use Rattle.groups.specs.Groups.{groupIn}
+use Rattle.groups.specs.Written.{groupIn}
 use Rattle.groups.specs.declared.cut.Group.{Group}
 use Rattle.groups.proofs.Cuts.{Cut, cut-start, cut-on, cut-off, cut-end}
 use Rattle.groups.proofs.cut.cut_groups.Statement.{statement}

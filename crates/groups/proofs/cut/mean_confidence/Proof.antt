@@ -1,6 +1,6 @@
 -- The sum over the count.
 use borrow.Author.Needs.{needs}
-use Rattle.groups.specs.Groups.{meanOf}
+use Rattle.groups.specs.Groups.{meanConfidence}
 use Rattle.groups.proofs.cut.mean_confidence.Statement.{statement}
 use Rattle.groups.proofs.cut.mean_confidence.Tie as tie
 
@@ -14,7 +14,7 @@ nearest-u32-to-f32-requires : tie.Need-nearest-u32-to-f32-requires
 nearest-u32-to-f32-requires c κs = search needs
 
 returns : tie.Need-returns
-unfolding meanOf
+unfolding meanConfidence
 returns c = cc
 
 pub mean-confidence-spec : {M : Type 1} → statement M

@@ -1,80 +1,96 @@
 -- Each way out of a turn is a law of `Shortens`.
-use Rattle.timeline.specs.Segments.{segmentRows}
-use Rattle.shortening.proofs.Shortens.{Shortening, shortening-start, now-room, short-within, keeper-there, shortening-more, shortening-few, shortening-done}
+use mathlib.Core.Path.{refl, _∙_}
+use Prim.Native.Nat.{_+_, _-_}
+use native.Mathlib.Omega.{arith}
 use borrow.Author.Needs.{needs}
+use Rattle.timeline.specs.Segments.{segmentRows}
+use Rattle.shortening.proofs.Shortens.{settled-none, taken-few, Gap, gap-start, now-room, back-two, back-room, more-room, gap-back, gap-more, gap-end}
 use Rattle.shortening.proofs.shorten.shorten_segments.Statement.{statement}
 use Rattle.shortening.proofs.shorten.shorten_segments.Tie as tie
 
 abbrev Inv-loop : tie.InvT-loop
-Inv-loop least count starts₀ ends₀ keys₀ confidences₀ left₀ starts ends keys confidences left =
-    Shortening least count (segmentRows starts₀ ends₀ keys₀ confidences₀) (segmentRows starts ends keys confidences) left
+Inv-loop least count starts₀ ends₀ keys₀ confidences₀ done₀ next₀ starts ends keys confidences done next =
+    Gap least count (segmentRows starts₀ ends₀ keys₀ confidences₀) (segmentRows starts ends keys confidences) done next
 
 abbrev μ-loop : tie.MeasureT-loop
-μ-loop least count starts₀ ends₀ keys₀ confidences₀ left₀ starts ends keys confidences left = left
-
-loop-holds : tie.Need-loop-holds Inv-loop μ-loop
-loop-holds c = let start = c .before .before .before .before in shortening-start _ (start .pre .0) (start .pre .1)
-
-first-short-requires : tie.Need-first-short-requires Inv-loop μ-loop
-first-short-requires c κs = now-room (c .before .before .before .before .before .loop .inv)
-
-same-length : tie.Need-same-length Inv-loop μ-loop
-same-length c = c .before .before .before .before .before .before .before .loop .inv .starts .long
-
-same-length-2 : tie.Need-same-length-2 Inv-loop μ-loop
-same-length-2 c = c .before .before .before .before .before .before .before .loop .inv .ends .long
-
-same-length-3 : tie.Need-same-length-3 Inv-loop μ-loop
-same-length-3 c = c .before .before .before .before .before .before .before .loop .inv .keys .long
-
-same-length-4 : tie.Need-same-length-4 Inv-loop μ-loop
-same-length-4 c = c .before .before .before .before .before .before .before .loop .inv .confidences .long
+μ-loop least count starts₀ ends₀ keys₀ confidences₀ done₀ next₀ starts ends keys confidences done next =
+    count - next + (count - next) + done
 
 returns : tie.Need-returns Inv-loop μ-loop
-returns c = shortening-done (c .before .before .before .before .before .before .before .loop .inv) (c .before .first-short .ensures) (c .if1 .taken)
+returns c = settled-none _ _ (c .if1 .taken)
 
-keeper-of-requires : tie.Need-keeper-of-requires Inv-loop μ-loop
-keeper-of-requires c κs =
-    let searched = c .before .before .before .before .before in
-    let s = searched .before .before .before .before .before .before .loop .inv in
-    (short-within s (searched .first-short .ensures) (c .before .before .before .before .if1 .left), now-room s)
+loop-holds : tie.Need-loop-holds Inv-loop μ-loop
+loop-holds c = let start = c .before .before .before .before .before in gap-start _ (start .pre .0) (start .pre .1) (omega arith)
+
+joins-back-requires : tie.Need-joins-back-requires Inv-loop μ-loop
+joins-back-requires c κs = let gap = c .before .before .before .before .loop .inv in (gap .some, gap .apart, gap .upto, now-room gap)
+
+sub-done : tie.Need-sub-done Inv-loop μ-loop
+sub-done c = c .before .before .before .before .before .before .loop .inv .some
+
+sub-join-rows : tie.Need-sub-join-rows Inv-loop μ-loop
+sub-join-rows c = let two = back-two (c .before .before .before .before .before .before .loop .inv) (c .before .joins-back .ensures) (c .if2 .taken) in omega arith
 
 join-rows-requires : tie.Need-join-rows-requires Inv-loop μ-loop
-join-rows-requires c κs =
-    let kept = c .before .before .before .before in
-    let searched = kept .before .before .before .before .before .before in
-    let turn = searched .before .before .before .before .before in
-    let s = turn .before .loop .inv in
-    (keeper-there s (turn .loop-test .taken) (short-within s (searched .first-short .ensures) (kept .before .before .before .before .before .if1 .left)) (kept .keeper-of .ensures), now-room s)
-
-sub-left : tie.Need-sub-left Inv-loop μ-loop
-sub-left c = search needs
+join-rows-requires c κs = let back = c .before .before .before .before in back-room (back .before .before .before .before .before .before .loop .inv) (back .before .joins-back .ensures) (back .if2 .taken)
 
 loop-less : tie.Need-loop-less Inv-loop μ-loop
-loop-less c = search needs
+loop-less c =
+    let back = c .before .before .before .before .before .before .before .before .before .before .before .before .before in
+    let two = back-two (back .before .before .before .before .before .before .loop .inv) (back .before .joins-back .ensures) (back .if2 .taken) in
+    omega arith
 
 loop-again : tie.Need-loop-again Inv-loop μ-loop
 loop-again c =
-    let joined = c .before .before .before .before .before .before .before .before in
-    let kept = joined .before .before .before .before .before in
-    let searched = kept .before .before .before .before .before .before in
-    let turn = searched .before .before .before .before .before in
-    shortening-more (turn .before .loop .inv) (turn .loop-test .taken) (searched .first-short .ensures) (kept .before .before .before .before .before .if1 .left) (kept .keeper-of .ensures) (joined .join-rows .ensures)
+    let join = c .before .before .before .before .before .before .before .before in
+    let back = join .before .before .before .before .before in
+    gap-back (back .before .before .before .before .before .before .loop .inv) (back .before .joins-back .ensures) (back .if2 .taken) refl (join .join-rows .ensures)
 
-same-length-5 : tie.Need-same-length-5 Inv-loop μ-loop
-same-length-5 c = c .before .loop .inv .starts .long
+take-in-requires : tie.Need-take-in-requires Inv-loop μ-loop
+take-in-requires c κs = let inside = c .before .before .before .before in let gap = inside .before .before .before .before .before .before .before .loop .inv in (gap .some, gap .apart, more-room gap (inside .if3 .left))
 
-same-length-6 : tie.Need-same-length-6 Inv-loop μ-loop
-same-length-6 c = c .before .loop .inv .ends .long
+add-next : tie.Need-add-next Inv-loop μ-loop
+add-next c =
+    let inside = c .before .before .before .before .before .before .before .before .before .before .before .before .before in
+    let gap = inside .before .before .before .before .before .before .before .loop .inv in
+    search needs
 
-same-length-7 : tie.Need-same-length-7 Inv-loop μ-loop
-same-length-7 c = c .before .loop .inv .keys .long
+loop-less-2 : tie.Need-loop-less-2 Inv-loop μ-loop
+loop-less-2 c =
+    let took = c .before .before .before .before .before .before .before .before in
+    let inside = took .before .before .before .before .before in
+    let upto = inside .before .before .before .before .before .before .before .loop .inv .upto in
+    let few = taken-few _ _ _ _ (took .take-in .ensures) in
+    omega (arith, inside .if3 .left)
 
-same-length-8 : tie.Need-same-length-8 Inv-loop μ-loop
-same-length-8 c = c .before .loop .inv .confidences .long
+loop-again-2 : tie.Need-loop-again-2 Inv-loop μ-loop
+loop-again-2 c =
+    let took = c .before .before .before .before .before .before .before .before in
+    let inside = took .before .before .before .before .before in
+    let back = inside .before in
+    gap-more (back .before .before .before .before .before .before .loop .inv) (back .before .joins-back .ensures) (back .if2 .left) (inside .if3 .left) (took .take-in .ensures)
+
+empty-rows-requires : tie.Need-empty-rows-requires Inv-loop μ-loop
+empty-rows-requires c κs = let gap = c .before .before .before .before .before .before .before .before .before .before .before .loop .inv in (omega (arith, gap .apart, gap .upto), now-room gap)
+
+same-length : tie.Need-same-length Inv-loop μ-loop
+same-length c = let emptied = c .before .before .before .before .before .before .before .before in emptied .empty-rows .kept .1 .1 .0 ∙ emptied .before .before .before .before .before .before .before .before .before .before .before .before .loop .inv .starts .long
+
+same-length-2 : tie.Need-same-length-2 Inv-loop μ-loop
+same-length-2 c = let emptied = c .before .before .before .before .before .before .before .before in emptied .empty-rows .kept .1 .1 .1 .0 ∙ emptied .before .before .before .before .before .before .before .before .before .before .before .before .loop .inv .ends .long
+
+same-length-3 : tie.Need-same-length-3 Inv-loop μ-loop
+same-length-3 c = let emptied = c .before .before .before .before .before .before .before .before in emptied .empty-rows .kept .1 .1 .1 .1 .0 ∙ emptied .before .before .before .before .before .before .before .before .before .before .before .before .loop .inv .keys .long
+
+same-length-4 : tie.Need-same-length-4 Inv-loop μ-loop
+same-length-4 c = let emptied = c .before .before .before .before .before .before .before .before in emptied .empty-rows .kept .1 .1 .1 .1 .1 .0 ∙ emptied .before .before .before .before .before .before .before .before .before .before .before .before .loop .inv .confidences .long
 
 returns-2 : tie.Need-returns-2 Inv-loop μ-loop
-returns-2 c = shortening-few (c .before .loop .inv) (c .loop-test .left)
+returns-2 c =
+    let empty = c .before .before .before .before .before .before .before .before in
+    let end = empty .before .before .before .before .before in
+    let back = end .before in
+    gap-end (back .before .before .before .before .before .before .loop .inv) (back .before .joins-back .ensures) (back .if2 .left) (end .if3 .taken) (empty .empty-rows .ensures)
 
 pub shorten-segments-spec : {M : Type 1} → statement M
 shorten-segments-spec =
@@ -82,20 +98,21 @@ shorten-segments-spec =
     (tie.spec
     Inv-loop
     μ-loop
+    returns
     loop-holds
-    first-short-requires
+    joins-back-requires
+    sub-done
+    sub-join-rows
+    join-rows-requires
+    loop-less
+    loop-again
+    take-in-requires
+    add-next
+    loop-less-2
+    loop-again-2
+    empty-rows-requires
     same-length
     same-length-2
     same-length-3
     same-length-4
-    returns
-    keeper-of-requires
-    join-rows-requires
-    sub-left
-    loop-less
-    loop-again
-    same-length-5
-    same-length-6
-    same-length-7
-    same-length-8
     returns-2)

@@ -1,3 +1,0 @@
--- How rows move down, entry by entry.
-pub mod Moves
-mod Gaps

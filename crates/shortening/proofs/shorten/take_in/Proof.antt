@@ -1,0 +1,92 @@
+-- Each answer is a law of `Shortens`.
+use native.Mathlib.Omega.{arith}
+use Rattle.shortening.proofs.Shortens.{in-room, takes-joined, takes-next}
+use borrow.Author.Needs.{needs}
+use Rattle.shortening.proofs.shorten.take_in.Statement.{statement}
+use Rattle.shortening.proofs.shorten.take_in.Tie as tie
+
+sub-last : tie.Need-sub-last
+sub-last c = search needs
+
+segment-at-requires : tie.Need-segment-at-requires
+segment-at-requires c κs = search needs
+
+segment-at-requires-2 : tie.Need-segment-at-requires-2
+segment-at-requires-2 c κs = search needs
+
+is-short-requires : tie.Need-is-short-requires
+is-short-requires c κs = search needs
+
+join-segments-requires : tie.Need-join-segments-requires
+join-segments-requires c κs = search needs
+
+put-segment-requires : tie.Need-put-segment-requires
+put-segment-requires c κs = let start = c .before .before .before .before .before .before .before .before .before .before .before .before .before .before .before .before .before .before .before .before .before in in-room (start .pre .2) (omega arith)
+
+same-length : tie.Need-same-length
+same-length c = search needs
+
+same-length-2 : tie.Need-same-length-2
+same-length-2 c = search needs
+
+same-length-3 : tie.Need-same-length-3
+same-length-3 c = search needs
+
+same-length-4 : tie.Need-same-length-4
+same-length-4 c = search needs
+
+returns : tie.Need-returns
+returns c =
+    let put = c .before .before .before .before .before .before .before .before in
+    let made = put .before .before .before .before .before in
+    let short = made .before .before in
+    let read = short .before in
+    takes-joined _ _ _ _ (read .before .before .before .before .before .segment-at .ensures) (read .segment-at2 .ensures) (short .is-short .ensures) (made .before .if1 .taken) (made .join-segments .ensures) (put .put-segment .ensures)
+
+put-segment-requires-2 : tie.Need-put-segment-requires-2
+put-segment-requires-2 c κs = let start = c .before .before .before .before .before .before .before .before .before .before .before .before .before .before .before .before .before .before .before .before in in-room (start .pre .2) (omega arith)
+
+add-result : tie.Need-add-result
+add-result c = let start = c .before .before .before .before .before .before .before .before .before .before .before .before .before .before .before .before .before .before .before .before .before .before .before .before .before .before .before .before .before in omega (arith, start .pre, start .fits)
+
+same-length-5 : tie.Need-same-length-5
+same-length-5 c = search needs
+
+same-length-6 : tie.Need-same-length-6
+same-length-6 c = search needs
+
+same-length-7 : tie.Need-same-length-7
+same-length-7 c = search needs
+
+same-length-8 : tie.Need-same-length-8
+same-length-8 c = search needs
+
+returns-2 : tie.Need-returns-2
+returns-2 c =
+    let put = c .before .before .before .before .before .before .before .before in
+    let test = put .before .before .before .before .before in
+    let read = test .before .before in
+    takes-next _ _ _ _ (read .before .before .before .before .before .segment-at .ensures) (read .segment-at2 .ensures) (test .before .is-short .ensures) (test .if1 .left) (put .put-segment2 .ensures)
+
+pub take-in-spec : {M : Type 1} → statement M
+take-in-spec =
+    tie.close
+    (tie.spec
+    sub-last
+    segment-at-requires
+    segment-at-requires-2
+    is-short-requires
+    join-segments-requires
+    put-segment-requires
+    same-length
+    same-length-2
+    same-length-3
+    same-length-4
+    returns
+    put-segment-requires-2
+    add-result
+    same-length-5
+    same-length-6
+    same-length-7
+    same-length-8
+    returns-2)

@@ -1,0 +1,42 @@
+-- Only for the code's own steps: no promise names it. Rows with a gap: the first `done` hold the segments looked at, and those from `next` up to the count are unread.
+use Prim.Native.Nat.{ℕ, _+_, _-_}
+use mathlib.Core.Bool.{Bool, true, false, _&&_, cond}
+use mathlib.Core.List.{List, _++_}
+use lib.ListN.{take, drop, replicate}
+use lib.Dec.{eqb}
+use lib.Ieee.{Float, le}
+use Rattle.keys.specs.Numbers.{keyNumber}
+use Rattle.timeline.specs.Segments.{emptied, seconds, short, joined, SegmentRows, segmentRows, putSegment, segmentIn, Filled, filled}
+
+-- the last of those looked at joins the one before it rather than the next one
+unfoldable pub prefersBack : ℕ → ℕ → ℕ → SegmentRows → Bool
+prefersBack done next count rows =
+    cond (eqb (done - 1) 0) false (cond (eqb next count) true (le (seconds (segmentIn rows next)) (seconds (segmentIn rows (done - 1 - 1)))))
+
+-- it is short, and does
+unfoldable pub joinsBack : Float → ℕ → ℕ → ℕ → SegmentRows → Bool
+joinsBack least done next count rows = short least (segmentIn rows (done - 1)) && prefersBack done next count rows
+
+-- the segments in the rows p and p + 1 as one, in row p
+abbrev pub joinedRows : ℕ → SegmentRows → SegmentRows
+joinedRows p r = putSegment (joined (segmentIn r p) (segmentIn r (p + 1))) p r
+
+-- the next one is read: it joins the last where that is short, and else stands behind it
+unfoldable pub takenIn : Float → ℕ → ℕ → SegmentRows → Filled
+takenIn least done next r =
+    cond (short least (segmentIn r (done - 1)))
+    (filled done (putSegment (joined (segmentIn r (done - 1)) (segmentIn r next)) (done - 1) r))
+    (filled (done + 1) (putSegment (segmentIn r next) done r))
+
+-- a column of which the entries from `from` up to `count` are x
+abbrev pub emptiedColumn : {A : Type 0} → ℕ → ℕ → A → List A → List A
+emptiedColumn from count x xs = take from xs ++ (replicate (count - from) x ++ drop count xs)
+
+-- rows of which those are emptied
+abbrev pub emptiedRows : ℕ → ℕ → SegmentRows → SegmentRows
+emptiedRows from count r =
+    segmentRows
+    (emptiedColumn from count (emptied .start) (r .starts))
+    (emptiedColumn from count (emptied .end) (r .ends))
+    (emptiedColumn from count (keyNumber (emptied .key)) (r .keys))
+    (emptiedColumn from count (emptied .confidence) (r .confidences))
