@@ -8,7 +8,7 @@ use lib.Ieee.{Float, le}
 use Rattle.laws.specs.Values.{plusZero}
 use Rattle.laws.specs.Leader.{Standing}
 use Rattle.timeline.specs.Segments.{SegmentRows, segmentsIn}
-use Rattle.alternates.specs.Alternate.{instant, totalOf, rivalOf, judged, alternateOf}
+use Rattle.alternates.specs.Alternate.{instant, totalOf, rivalOf, namedUnlessLacking, alternateOf}
 use Rattle.alternates.specs.declared.alternate.Alternate.the-variants.{Nobody}
 use Rattle.longest.proofs.Rows.{row-count}
 
@@ -25,6 +25,6 @@ module _ (rows : SegmentRows) (count : ℕ) where
     unfolding alternateOf
     all-instants e t i = rw (counted e, ← t, i)
 
-    pub rival-judged : (le threshold plusZero || eqb count 0) ≡ false → {total : Float} → total ≡ totalOf (segmentsIn rows count) → le total instant ≡ false → {rival : Standing Float} → rival ≡ rivalOf reported (segmentsIn rows count) → judged threshold total rival ≡ alternateOf reported threshold (segmentsIn rows count)
+    pub rival-named : (le threshold plusZero || eqb count 0) ≡ false → {total : Float} → total ≡ totalOf (segmentsIn rows count) → le total instant ≡ false → {rival : Standing Float} → rival ≡ rivalOf reported (segmentsIn rows count) → namedUnlessLacking threshold total rival ≡ alternateOf reported threshold (segmentsIn rows count)
     unfolding alternateOf
-    rival-judged e t i s = rw (counted e, ← t, i, ← s)
+    rival-named e t i s = rw (counted e, ← t, i, ← s)

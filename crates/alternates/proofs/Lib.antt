@@ -1,6 +1,6 @@
 -- What the functions' proofs share, on plain values, and the theorems.
-mod Rows
 mod Branches
 mod Sums
+mod Noting
 pub mod Tiled
 pub mod Named

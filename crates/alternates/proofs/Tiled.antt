@@ -8,7 +8,8 @@ use native.Mathlib.Omega.{arith}
 use lib.ListN.{length}
 use lib.Dec.{T}
 use lib.Ieee.{Float, binary64, le}
-use Rattle.laws.specs.Turns.{turns}
+use Rattle.laws.specs.Lists.{fold}
+use Rattle.laws.specs.Front.{list}
 use Rattle.laws.specs.Values.{plusZero, nonneg, Held}
 use Rattle.laws.specs.Convert.{parts}
 use Rattle.laws.proofs.Order.{le-refl, le-trans}
@@ -19,14 +20,14 @@ use Rattle.laws.proofs.Zero.{plusZero-held, plusZero-least, sub-under}
 use Rattle.timeline.specs.Segments.{seconds, segmentAt}
 use Rattle.timeline.specs.Tiling.{Tiles}
 use Rattle.timeline.specs.declared.segment.Segment.{Segment}
-use Rattle.alternates.specs.Alternate.{heard}
+use Rattle.alternates.specs.Alternate.{heldSeconds}
 use Rattle.alternates.specs.Named.{TiledTotalFinite}
-use Rattle.alternates.proofs.Sums.{sofar, total-is, sofar-amount, sofar-more, heard-amount}
+use Rattle.alternates.proofs.Sums.{sofar, total-is, sofar-amount, sofar-more, held-amount}
 
 -- a segment that ends no sooner than it starts
-heard-under : (s : Segment) → Held binary64 (s .start) → Held binary64 (s .end) → T (le (s .start) (s .end)) → T (le (heard s) (s .end))
-unfolding heard seconds
-heard-under s a b h =
+held-under : (s : Segment) → Held binary64 (s .start) → Held binary64 (s .end) → T (le (s .start) (s .end)) → T (le (heldSeconds s) (s .end))
+unfolding heldSeconds seconds
+held-under s a b h =
     let under = sub-under binary64 (s .end) (s .start) b (a .at-least-zero) h in
     let some = nonneg-under (seconds s) (s .end) (sub-clear binary64 (s .end) (s .start) (b .at-least-zero) (a .at-least-zero) h) (b .at-least-zero) under in
     subst (λ (x : Float). T (le x (s .end))) (sym (max-left (seconds s) plusZero some (plusZero-least (seconds s) (nonneg→clear (seconds s) some)))) under
@@ -55,13 +56,13 @@ module _ (duration : Float) (segments : List Segment) (tiles : Tiles duration se
       subst (λ (x : Float). T (le (segmentAt segments i .end) x)) (tiles .last-end (i + d) end) (ends-rise d i (omega (arith, end)))
 
   module _ (D : ℕ) (by : T (le duration (parts binary64 0 D))) (room : length segments * D < 2 ^ 53) where
-    part-under : (i : ℕ) → i < length segments → T (le (heard (segmentAt segments i)) (parts binary64 0 D))
+    part-under : (i : ℕ) → i < length segments → T (le (heldSeconds (segmentAt segments i)) (parts binary64 0 D))
     part-under i h =
         let s = segmentAt segments i in
-        le-trans (heard s) (s .end) (parts binary64 0 D) (heard-under s (start-held i h) (tiles .times i h) (tiles .forward i h)) (le-trans (s .end) duration (parts binary64 0 D) (within i h) by)
+        le-trans (heldSeconds s) (s .end) (parts binary64 0 D) (held-under s (start-held i h) (tiles .times i h) (tiles .forward i h)) (le-trans (s .end) duration (parts binary64 0 D) (within i h) by)
 
     sum-under : (k : ℕ) → k ≤ length segments → T (le (sofar segments k) (parts binary64 0 (k * D)))
-    unfolding turns
+    unfolding fold list
     sum-under zero h = plusZero-least (parts binary64 0 (0 * D)) (parts-clear binary64 0 (0 * D))
     sum-under (suc k) h =
         let more : suc k * D ≡ k * D + D = suc-mul k D in
@@ -70,7 +71,7 @@ module _ (duration : Float) (segments : List Segment) (tiles : Tiles duration se
         let next = ap (sofar segments) (sym (add-one k)) ∙ sofar-more segments k in
         let s = segmentAt segments k in
         rw (next, more)
-        (add-under binary64 0 zero-le (sofar segments k) (heard s) (k * D) D small (sofar-amount segments k .plus) (heard-amount s .plus) (sum-under k (omega (arith, h))) (part-under k h))
+        (add-under binary64 0 zero-le (sofar segments k) (heldSeconds s) (k * D) D small (sofar-amount segments k .plus) (held-amount s .plus) (sum-under k (omega (arith, h))) (part-under k h))
 
 pub tiled-total-finite : TiledTotalFinite
 tiled-total-finite duration segments D tiles by room =

@@ -1,2 +1,3 @@
 pub mod Alternate
 pub mod Named
+pub mod Noted

@@ -8,6 +8,7 @@ use lib.Dec.{T, eqb}
 use lib.Ieee.{Float, binary64, lt, le}
 use Rattle.laws.specs.Values.{plusZero, ordered, nonneg}
 use Rattle.laws.specs.Convert.{parts}
+use Rattle.timeline.specs.Segments.{segmentAt}
 use Rattle.timeline.specs.Tiling.{Tiles}
 use Rattle.timeline.specs.declared.segment.Segment.{Segment}
 use Rattle.alternates.specs.Alternate.{lastsIn, totalOf, secondsOf, coverageOf, lacks, alternateOf}
@@ -18,7 +19,7 @@ pub record Reaches (reported : ℕ) (threshold : Float) (segments : List Segment
   pub other : eqb key reported ≡ false
   pub place : ℕ
   pub there : place < length segments
-  pub lasts : lastsIn segments key place ≡ true
+  pub lasts : lastsIn key (segmentAt segments place) ≡ true
   pub enough : lacks threshold (coverageOf (totalOf segments) (secondsOf segments key)) ≡ false
 
 -- what holds of an alternate that is named: the threshold is above zero, the key reaches it, and no other such key has more seconds

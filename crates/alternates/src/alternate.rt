@@ -1,15 +1,15 @@
 // The alternate key: the other key with the most seconds, where they cover enough.
 ghost use mathlib.Core.Path.{_≡_};
-ghost use mathlib.Core.Bool.{_&&_, not};
-ghost use Prim.Native.Nat.{_≤_};
-ghost use lib.Dec.{eqb};
+ghost use Prim.Native.Nat.{ℕ, _<_, _≤_};
+ghost use lib.ListN.{length};
 ghost use lib.Ieee.{binary64, add};
-ghost use Rattle.laws.specs.First.{first};
 ghost use Rattle.laws.specs.Order.{totalOrder};
-ghost use Rattle.laws.specs.Leader.{isOf, outdone};
+ghost use Rattle.laws.specs.Leader.{outdone};
 ghost use Rattle.keys.specs.Numbers.{keyNumber};
+ghost use Rattle.timeline.specs.Estimates.{Numbered};
 ghost use Rattle.timeline.specs.Segments.{Room, lentSegments, segmentsIn};
-ghost use Rattle.alternates.specs.Alternate.{heard, lasting, totalOf, numberAt, secondsOf, rivals, rivalOf, judged, alternateOf, standingOf};
+ghost use Rattle.alternates.specs.Alternate.{heldSeconds, lasting, totalOf, rivalOf, namedUnlessLacking, alternateOf};
+ghost use Rattle.alternates.specs.Noted.{notedOf, leaderIn, standingOf};
 use conversions::narrow;
 use keys::Key;
 use keys::numbers::key_number;
@@ -31,9 +31,16 @@ enum Rival {
     Leads(u8, f64),
 }
 
+// Each key's seconds, and the keys in the order in which they are first met, behind the reported one.
+struct Noted {
+    sums: [f64; 24],
+    order: [u8; 24],
+    met: usize,
+}
+
 // A segment's length, held from +0 up.
-fn heard_seconds(segment: Segment) -> f64
-    ensures { λ r. ⌜ r ≡ heard segment ⌝ }
+fn held_seconds(segment: Segment) -> f64
+    ensures { λ r. ⌜ r ≡ heldSeconds segment ⌝ }
 {
     larger(segment_seconds(segment), 0.0)
 }
@@ -42,14 +49,14 @@ fn heard_seconds(segment: Segment) -> f64
 fn is_lasting(segment: Segment) -> bool
     ensures { λ r. ⌜ r ≡ lasting segment ⌝ }
 {
-    !(heard_seconds(segment) <= 0.0000000000000002220446049250313)
+    !(held_seconds(segment) <= 0.0000000000000002220446049250313)
 }
 
 // One segment's length more.
 fn with_length(sum: f64, segment: Segment) -> f64
-    ensures { λ r. ⌜ r ≡ add binary64 sum (heard segment) ⌝ }
+    ensures { λ r. ⌜ r ≡ add binary64 sum (heldSeconds segment) ⌝ }
 {
-    let length = heard_seconds(segment);
+    let length = held_seconds(segment);
     sum + length
 }
 
@@ -74,77 +81,49 @@ fn total_seconds(
     sum
 }
 
-// Whether a segment lasts and has the key.
-fn lasts_in(key: u8, segment: Segment) -> bool
-    ensures { λ r. ⌜ r ≡ (lasting segment && eqb (keyNumber (segment .key)) key) ⌝ }
-{
-    let own = segment.key;
-    is_lasting(segment) & (key_number(own) == key)
-}
-
-// Whether a segment lasts and has another key than the reported one.
-fn is_rival(reported: u8, segment: Segment) -> bool
-    ensures { λ r. ⌜ r ≡ (lasting segment && not (eqb (keyNumber (segment .key)) reported)) ⌝ }
-{
-    let own = segment.key;
-    is_lasting(segment) & !(key_number(own) == reported)
-}
-
-// A key's seconds: the lengths of its lasting segments, summed in order.
-fn key_seconds(
-    key: u8,
+// Notes each lasting segment's seconds, and its key where that is first met; the reported key counts
+// as met before all others.
+fn note_segments(
+    reported: u8,
     count: usize,
     starts: &[f64],
     ends: &[f64],
     keys: &[u8],
     confidences: &[f32],
-) -> f64
-    requires { ⌜ Room (lentSegments starts ends keys confidences) count ⌝ }
-    ensures { λ r. ⌜ r ≡ secondsOf (segmentsIn (lentSegments (starts .entry) (ends .entry) (keys .entry) (confidences .entry)) count) key ⌝ }
+) -> Noted
+    requires { ⌜ (reported < 24) × Room (lentSegments starts ends keys confidences) count ⌝ }
+    ensures { λ r. ⌜ r ≡ notedOf reported (segmentsIn (lentSegments (starts .entry) (ends .entry) (keys .entry) (confidences .entry)) count) ⌝ }
 {
-    let mut sum = 0.0;
+    let mut sums = [0.0; 24];
+    let mut order = [0; 24];
+    let mut known = [false; 24];
+    order[0] = reported;
+    known[reported as usize] = true;
+    let mut met = 1;
     let mut i = 0;
     while i < count {
         let next = i + 1;
         let segment = segment_at(i, starts, ends, keys, confidences);
-        if lasts_in(key, segment) {
-            sum = sum + heard_seconds(segment);
+        if is_lasting(segment) {
+            let own = segment.key;
+            let key = key_number(own);
+            let at = key as usize;
+            let length = held_seconds(segment);
+            sums[at] = sums[at] + length;
+            if !known[at] {
+                known[at] = true;
+                order[met] = key;
+                met = met + 1;
+            }
         }
         i = next;
     }
-    sum
-}
-
-// Where a rival with the key is first met among the first segments: their count where none is.
-fn first_place(
-    reported: u8,
-    key: u8,
-    upto: usize,
-    starts: &[f64],
-    ends: &[f64],
-    keys: &[u8],
-    confidences: &[f32],
-) -> usize
-    requires { ⌜ Room (lentSegments starts ends keys confidences) upto ⌝ }
-    ensures { λ r. ⌜ r ≡ first (isOf (rivals reported (segmentsIn (lentSegments (starts .entry) (ends .entry) (keys .entry) (confidences .entry)) upto)) (numberAt (segmentsIn (lentSegments (starts .entry) (ends .entry) (keys .entry) (confidences .entry)) upto)) key) upto 0 ⌝ }
-{
-    let mut i = 0;
-    loop {
-        if i >= upto {
-            break upto;
-        }
-        let segment = segment_at(i, starts, ends, keys, confidences);
-        let own = segment.key;
-        if is_rival(reported, segment) & (key_number(own) == key) {
-            break i;
-        }
-        i += 1;
-    }
+    Noted { sums, order, met }
 }
 
 // The next key takes the lead unless the leading seconds are above its own.
 fn take_lead(rival: Rival, key: u8, sum: f64) -> Rival
-    ensures { λ r. ⌜ standingOf r ≡ outdone totalOrder key sum (standingOf rival) ⌝ }
+    ensures { λ r. ⌜ standingOf r ≡ outdone totalOrder (λ (k : ℕ). sum) (standingOf rival) key ⌝ }
 {
     match rival {
         Rival::None => Rival::Leads(key, sum),
@@ -158,39 +137,25 @@ fn take_lead(rival: Rival, key: u8, sum: f64) -> Rival
     }
 }
 
-// The other key with the most seconds: each key is brought where it is first met.
-fn find_rival(
-    reported: u8,
-    count: usize,
-    starts: &[f64],
-    ends: &[f64],
-    keys: &[u8],
-    confidences: &[f32],
-) -> Rival
-    requires { ⌜ Room (lentSegments starts ends keys confidences) count ⌝ }
-    ensures { λ r. ⌜ standingOf r ≡ rivalOf reported (segmentsIn (lentSegments (starts .entry) (ends .entry) (keys .entry) (confidences .entry)) count) ⌝ }
+// Of the keys behind the reported one, the last with the most seconds.
+fn find_leader(noted: Noted) -> Rival
+    requires { ⌜ (0 < noted .met) × (noted .met ≤ 24) × (noted .met ≤ length (noted .order)) × Numbered (noted .order) (noted .met) ⌝ }
+    ensures { λ r. ⌜ standingOf r ≡ leaderIn noted ⌝ }
 {
     let mut rival = Rival::None;
-    let mut i = 0;
-    while i < count {
-        let next = i + 1;
-        let segment = segment_at(i, starts, ends, keys, confidences);
-        let own = segment.key;
-        let key = key_number(own);
-        if is_rival(reported, segment) {
-            if first_place(reported, key, i, starts, ends, keys, confidences) == i {
-                let sum = key_seconds(key, count, starts, ends, keys, confidences);
-                rival = take_lead(rival, key, sum);
-            }
-        }
-        i = next;
+    let mut j = 1;
+    while j < noted.met {
+        let key = noted.order[j];
+        let sum = noted.sums[key as usize];
+        rival = take_lead(rival, key, sum);
+        j += 1;
     }
     rival
 }
 
 // Names the leading key unless its part of all seconds lacks.
 fn judge(threshold: f32, total: f64, rival: Rival) -> Alternate
-    ensures { λ r. ⌜ r ≡ judged threshold total (standingOf rival) ⌝ }
+    ensures { λ r. ⌜ r ≡ namedUnlessLacking threshold total (standingOf rival) ⌝ }
 {
     match rival {
         Rival::None => Alternate::Nobody,
@@ -225,6 +190,7 @@ pub fn alternate_key(
     if total <= 0.0000000000000002220446049250313 {
         return Alternate::Nobody;
     }
-    let rival = find_rival(key_number(reported), count, starts, ends, keys, confidences);
+    let noted = note_segments(key_number(reported), count, starts, ends, keys, confidences);
+    let rival = find_leader(noted);
     judge(threshold, total, rival)
 }

@@ -37,7 +37,7 @@ use Rattle.segments.proofs.LaidOut.{track-laid-out, filled-read-back}
 use Rattle.shortening.specs.Shorten.{leftIn}
 use Rattle.longest.specs.Longest.{reportedOf}
 use Rattle.longest.proofs.Reported.{longest-reported}
-use Rattle.alternates.specs.Alternate.{lasting, numberAt, lastsIn, alternateOf, alternateNumber, alternateCoverage}
+use Rattle.alternates.specs.Alternate.{lasting, lastsIn, alternateOf, alternateNumber, alternateCoverage}
 use Rattle.alternates.specs.Named.{Reaches, Rightly, Exactly}
 use Rattle.alternates.specs.declared.alternate.Alternate.{Alternate}
 use Rattle.alternates.specs.declared.alternate.Alternate.the-variants.{Nobody, Named}
@@ -60,10 +60,10 @@ use Rattle.analysis.specs.Demand.{Alternating, LongestAnswered, Kept, De
 -- ---- the alternate and the reported key
 -- a key that has a lasting segment is a key's number
 reaching-below : {reported : ℕ} {threshold : Float} {segments : List Segment} {key : ℕ} → Reaches reported threshold segments key → key < 24
-unfolding lastsIn numberAt
+unfolding lastsIn
 reaching-below {segments = segments} {key} r =
     let place = r .place in
-    let own : numberAt segments place ≡ key = eqb→eq (numberAt segments place) key (and-r (lasting (segmentAt segments place)) _ (subst T (sym (r .lasts)) tt)) in
+    let own : keyNumber (segmentAt segments place .key) ≡ key = eqb→eq (keyNumber (segmentAt segments place .key)) key (and-r (lasting (segmentAt segments place)) _ (subst T (sym (r .lasts)) tt)) in
     subst (λ (k : ℕ). k < 24) own (numbers-are-keys .below (segmentAt segments place .key))
 
 module _ {reported : ℕ} {threshold : Float} {segments : List Segment} (exactly : Exactly reported threshold segments) where

@@ -1,16 +1,16 @@
 -- Laws of estimates in lent rows: the numbers and the confidences of a group are entries of the rows' own slices.
-use mathlib.Core.Path.{_≡_, refl, sym, ap, _∙_}
+use mathlib.Core.Path.{_≡_, refl, sym, ap, _∙_, subst}
 use mathlib.Core.List.{List, [], _∷_, _++_, map}
-use Prim.Native.Nat.{ℕ, zero, suc, _-_, _<_, _≤_}
+use Prim.Native.Nat.{ℕ, zero, suc, _+_, _-_, _<_, _≤_}
 use native.Mathlib.Omega.{arith}
 use lib.ListN.{length, getD, take, drop, length-drop}
-use lib.Seq.{take-append-le, drop-append-le}
+use lib.Seq.{take-append-le, drop-append-le, length-take-le, getD-take, getD-drop}
 use lib.Ieee.{Float, nan}
 use Rattle.laws.specs.Front.{list}
 use Rattle.laws.proofs.Front.{length-list, list-same, map-list, front-own}
 use Rattle.keys.specs.Numbers.{keyNumber}
 use Rattle.keys.proofs.Placed.{numbers-are-keys}
-use Rattle.timeline.specs.Estimates.{EstimateRows, Found, estimateIn, estimatesIn}
+use Rattle.timeline.specs.Estimates.{EstimateRows, Numbered, Found, estimateIn, estimatesIn}
 use Rattle.timeline.specs.declared.estimate.Estimate.{Estimate}
 use Rattle.groups.specs.Groups.{border, between, numbersOf, groupOf}
 use Rattle.groups.specs.Written.{grouped}
@@ -47,3 +47,10 @@ module _ (rows : EstimateRows) (count : ℕ) (there : Found rows count) where
       let numbers = part-of-rows (λ (e : Estimate). keyNumber (e .key)) (estimateIn rows) (rows .keys) 0 count from to (λ i p. numbers-are-keys .number-back _ (there .numbered i p)) h k (there .keys) ∙ map-part (λ (e : Estimate). keyNumber (e .key)) (to - from) from estimates in
       let confidences = part-of-rows (λ (e : Estimate). e .confidence) (estimateIn rows) (rows .confidences) nan count from to (λ i p. refl) h k (there .confidences) ∙ map-part (λ (e : Estimate). e .confidence) (to - from) from estimates in
       ap (λ (l : List ℕ). grouped start end l (between (rows .confidences) from to)) numbers ∙ ap (grouped start end (numbersOf (between estimates from to))) confidences
+
+-- a part of key numbers
+pub part-numbered : (numbers : List ℕ) (from to : ℕ) → from < to → to ≤ length numbers → Numbered numbers to → Numbered (between numbers from to) (length (between numbers from to))
+part-numbered numbers from to some within numbered i h =
+    let long : length (between numbers from to) ≡ to - from = length-take-le (to - from) (drop from numbers) (rw length-drop (omega arith)) in
+    let inside : i < to - from = omega (arith, h, long) in
+    subst (λ (n : ℕ). n < 24) (sym (getD-take (to - from) (drop from numbers) i 0 inside ∙ getD-drop from numbers i 0)) (numbered (from + i) (omega (arith, inside)))

@@ -3,7 +3,7 @@ ghost use mathlib.Core.Path.{_≡_};
 ghost use Prim.Native.Nat.{_+_, _<_, _≤_, _^_};
 ghost use lib.ListN.{length};
 ghost use Rattle.numbers.specs.Sum.{sumOf};
-ghost use Rattle.timeline.specs.Estimates.{Found, lentEstimates, estimatesIn};
+ghost use Rattle.timeline.specs.Estimates.{Numbered, Found, lentEstimates, estimatesIn};
 ghost use Rattle.timeline.specs.Segments.{Room, lentSegments, putSegment, filled, standing};
 ghost use Rattle.groups.specs.Groups.{meanConfidence, groupsOf};
 ghost use Rattle.groups.specs.Written.{grouped, group, groupIn};
@@ -59,7 +59,7 @@ fn mean_confidence(confidences: &[f32]) -> f32
 
 // The segment of a group.
 fn segment_of_group(start: f64, end: f64, numbers: &[u8], confidences: &[f32]) -> Segment
-    requires { ⌜ (0 < length (now numbers)) × (length (now confidences) < 2 ^ 32) ⌝ }
+    requires { ⌜ Numbered (now numbers) (length (now numbers)) × (length (now confidences) < 2 ^ 32) ⌝ }
     ensures { λ r. ⌜ r ≡ grouped start end (now (numbers .entry)) (now (confidences .entry)) ⌝ }
 {
     let key = stored_key(majority_key(numbers));
@@ -82,7 +82,7 @@ fn write_group(
     keys: &mut [u8],
     confidences: &mut [f32],
 )
-    requires { ⌜ (group .from < group .to) × (group .to ≤ length (now numbers)) × (group .to ≤ length (now certainties)) × (group .to < 2 ^ 32) × Room (lentSegments starts ends keys confidences) (n + 1) ⌝ }
+    requires { ⌜ (group .from < group .to) × (group .to ≤ length (now numbers)) × (group .to ≤ length (now certainties)) × (group .to < 2 ^ 32) × Numbered (now numbers) (group .to) × Room (lentSegments starts ends keys confidences) (n + 1) ⌝ }
     ensures { λ _. ⌜ lentSegments (starts .exit) (ends .exit) (keys .exit) (confidences .exit) ≡ putSegment (groupIn group (now (numbers .entry)) (now (certainties .entry))) n (lentSegments (starts .entry) (ends .entry) (keys .entry) (confidences .entry)) ⌝ }
 {
     let from = group.from;

@@ -4,10 +4,13 @@ use mathlib.Core.List.{List, [], _∷_, _++_, map, append-assoc, append-nil, map
 use Prim.Native.Nat.{ℕ, zero, suc, _+_, _-_, _<_, _≤_}
 use native.Mathlib.Numerals.{add-one}
 use native.Mathlib.Omega.{arith}
-use lib.ListN.{length, drop, set, getD, length-append, length-set, length-drop, List·getD-append}
+use lib.ListN.{length, drop, set, getD, length-append, length-set, length-drop, replicate, length-replicate, getD-replicate, List·getD-append}
 use mathlib.Core.Logic.{inl, inr}
+use mathlib.Core.Bool.{Bool, true, false}
+use lib.Dec.{eqb}
+use borrow.Author.Tests.{eqb-true, eqb-false}
 use native.Mathlib.Nat.{not-suc-le-zero, eq-or-lt-of-le, le-of-suc-le-suc}
-use lib.Seq.{drop-cons, set-append-seam, drop-append-seam, getD-append-add, getD-append-seam, getD-drop, set-getD, ext-getD, drop-length}
+use lib.Seq.{drop-cons, set-append-seam, drop-append-seam, getD-append-add, getD-append-seam, getD-drop, getD-set-same, getD-set-other, set-getD, ext-getD, drop-length}
 use Rattle.laws.specs.Front.{front, list}
 
 module _ {A : Type 0} (xs m : List A) where
@@ -24,6 +27,10 @@ unfolding list
 length-list f zero = refl
 length-list f (suc n) = simp (length-append, length-list f n) (omega arith)
 
+pub list-more : {A : Type 0} (f : ℕ → A) (n : ℕ) → list f (n + 1) ≡ list f n ++ (f n ∷ [])
+unfolding list
+list-more f n = rw (add-one, list)
+
 -- A loop that writes f i at i of m₀ has the invariant `Filled f m₀ m i`: `filled-start` where it begins, and after a turn `filled-more`.
 pub record Filled {A : Type 0} (f : ℕ → A) (m₀ m : List A) (i : ℕ) : Type 0 where
   pub here : m ≡ front (list f i) m₀
@@ -34,12 +41,10 @@ unfolding list
 filled-start f m = record { here = refl; long = refl }
 
 pub filled-more : {A : Type 0} (f : ℕ → A) (m₀ m : List A) (i : ℕ) → Filled f m₀ m i → i < length m₀ → Filled f m₀ (set m i (f i)) (i + 1)
-unfolding list
 filled-more f m₀ m i e h =
     let k : length (list f i) < length m₀ = rw (length-list f i) h in
-    let next : list f (i + 1) ≡ list f i ++ (f i ∷ []) = rw (add-one, list) in
     record {
-      here = ap (λ (l : List _). set l i (f i)) (e .here) ∙ ap (λ (j : ℕ). set (front (list f i) m₀) j (f i)) (sym (length-list f i)) ∙ front-more (list f i) m₀ (f i) k ∙ ap (λ (l : List _). front l m₀) (sym next);
+      here = ap (λ (l : List _). set l i (f i)) (e .here) ∙ ap (λ (j : ℕ). set (front (list f i) m₀) j (f i)) (sym (length-list f i)) ∙ front-more (list f i) m₀ (f i) k ∙ ap (λ (l : List _). front l m₀) (sym (list-more f i));
       long = length-set m i (f i) ∙ e .long;
     }
 
@@ -69,6 +74,23 @@ getD-list f (suc n) k d h =
       | inl e ↦ ap (λ (j : ℕ). getD (list f n ++ (f n ∷ [])) j d) (e ∙ sym (length-list f n)) ∙ getD-append-seam (list f n) (f n) [] d ∙ ap f (sym e)
       | inr l ↦ List·getD-append (list f n) (f n ∷ []) d k (rw length-list l) ∙ getD-list f n k d l
     ]
+
+pub replicate-list : {A : Type 0} (n : ℕ) (a : A) → replicate n a ≡ list (λ (k : ℕ). a) n
+replicate-list n a =
+    ext-getD a (replicate n a) _ (length-replicate n a ∙ sym (length-list (λ (k : ℕ). a) n))
+    (λ (k : ℕ) (h : k < length (replicate n a)). let l : k < n = rw (length-replicate n a) at h in getD-replicate n k a a l ∙ sym (getD-list (λ (j : ℕ). a) n k a l))
+
+-- one entry replaced
+pub list-set : {A : Type 0} (f g : ℕ → A) (n k : ℕ) (v : A) → k < n → v ≡ g k → ((j : ℕ) → (j ≡ k → ⊥) → f j ≡ g j) → set (list f n) k v ≡ list g n
+list-set f g n k v h e others =
+    ext-getD v _ (list g n) (length-set (list f n) k v ∙ length-list f n ∙ sym (length-list g n))
+    (λ (j : ℕ) (l : j < length (set (list f n) k v)). either j (rw (length-set (list f n) k v, length-list f n) at l) (eqb j k) refl)
+  where
+    either : (j : ℕ) → j < n → (b : Bool) → eqb j k ≡ b → getD (set (list f n) k v) j v ≡ getD (list g n) j v
+    either j l true d = let same = eqb-true j k d in
+        ap (λ (i : ℕ). getD (set (list f n) k v) i v) same ∙ getD-set-same (list f n) k v v (rw length-list h) ∙ e ∙ ap g (sym same) ∙ sym (getD-list g n j v l)
+    either j l false d = let apart = eqb-false j k d in
+        getD-set-other (list f n) k j v v apart ∙ getD-list f n j v l ∙ others j apart ∙ sym (getD-list g n j v l)
 
 pub map-list : {A B : Type 0} (f : A → B) (g : ℕ → A) (n : ℕ) → map f (list g n) ≡ list (λ (i : ℕ). f (g i)) n
 unfolding list

@@ -4,9 +4,11 @@ pub mod Seek
 pub mod First
 pub mod Front
 pub mod Every
+pub mod Lists
 pub mod Column
 pub mod Table
 pub mod Leader
+pub mod Meeting
 pub mod Cases
 pub mod Signs
 pub mod Patterns

@@ -3,6 +3,7 @@ pub mod Seek
 pub mod First
 pub mod Front
 pub mod Every
+pub mod Lists
 pub mod Table
 pub mod Values
 pub mod Order

@@ -1,2 +1,2 @@
--- What is known while votes are counted.
-mod Voting
+-- What the functions' proofs share, on plain lists.
+mod Counting

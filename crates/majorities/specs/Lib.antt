@@ -1,1 +1,2 @@
 pub mod Majority
+pub mod Tally

@@ -1,20 +1,15 @@
 -- The key that most windows of a group tell, written from the Rust's `majority_key_in_range`. Definitions only.
-use Prim.Native.Nat.{ℕ, _+_}
-use mathlib.Core.Bool.{true, cond}
+use Prim.Native.Nat.{ℕ}
 use mathlib.Core.List.{List}
-use lib.ListN.{length, getD}
+use lib.ListN.{length}
 use lib.Dec.{eqb, leb}
-use Rattle.laws.specs.Turns.{turns}
-use Rattle.laws.specs.Leader.{leadingKey, leaderOf}
-
--- number i is the key's
-abbrev pub countTurn : List ℕ → ℕ → ℕ → ℕ → ℕ
-countTurn numbers key i n = cond (eqb (getD numbers i 0) key) (n + 1) n
+use Rattle.laws.specs.Lists.{passing}
+use Rattle.laws.specs.Leader.{keysMet, leadingKey, lastLargest}
 
 -- how many of the numbers are the key's
-unfoldable pub countOf : List ℕ → ℕ → ℕ
-countOf numbers key = turns (countTurn numbers key) (length numbers) 0 0
+unfoldable pub votesOf : List ℕ → ℕ → ℕ
+votesOf numbers key = length (passing (λ (k : ℕ). eqb k key) numbers)
 
 -- the number that most are, of equal counts the one first met last
 unfoldable pub majorityOf : List ℕ → ℕ
-majorityOf numbers = leadingKey 0 (leaderOf leb (λ (i : ℕ). true) (λ (i : ℕ). getD numbers i 0) (countOf numbers) (length numbers))
+majorityOf numbers = leadingKey 0 (lastLargest leb (votesOf numbers) (keysMet numbers))

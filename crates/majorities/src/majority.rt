@@ -1,66 +1,70 @@
 // The key that most windows of a group tell: the Rust's `majority_key_in_range`.
 ghost use mathlib.Core.Path.{_≡_};
-ghost use mathlib.Core.Bool.{true};
-ghost use Prim.Native.Nat.{ℕ, _<_, _≤_};
-ghost use lib.ListN.{length, getD};
-ghost use Rattle.laws.specs.First.{first};
-ghost use Rattle.laws.specs.Leader.{isOf};
-ghost use Rattle.majorities.specs.Majority.{countOf, majorityOf};
+ghost use Prim.Native.Nat.{_≤_};
+ghost use lib.ListN.{length};
+ghost use Rattle.timeline.specs.Estimates.{Numbered};
+ghost use Rattle.majorities.specs.Majority.{majorityOf};
+ghost use Rattle.majorities.specs.Tally.{tallyOf, mostVoted};
 
-// Where the key is first met among the first numbers: their count where it is not.
-fn first_place(numbers: &[u8], count: usize, key: u8) -> usize
-    requires { ⌜ count ≤ length (now numbers) ⌝ }
-    ensures { λ r. ⌜ r ≡ first (isOf (λ (i : ℕ). true) (λ (i : ℕ). getD (now (numbers .entry)) i 0) key) count 0 ⌝ }
-{
-    let mut i = 0;
-    loop {
-        if i >= count {
-            break count;
-        }
-        if numbers[i] == key {
-            break i;
-        }
-        i += 1;
-    }
+// Each key's votes, and the keys in the order in which they are first met.
+struct Tally {
+    votes: [usize; 24],
+    order: [u8; 24],
+    met: usize,
 }
 
-// How many of the numbers are the key's.
-fn count_votes(numbers: &[u8], key: u8) -> usize
-    ensures { λ r. ⌜ r ≡ countOf (now (numbers .entry)) key ⌝ }
+// Counts the numbers, and notes each where it is first met.
+fn count_votes(numbers: &[u8]) -> Tally
+    requires { ⌜ Numbered (now numbers) (length (now numbers)) ⌝ }
+    ensures { λ r. ⌜ r ≡ tallyOf (now (numbers .entry)) ⌝ }
 {
     let count = numbers.len();
-    let mut votes = 0;
+    let mut votes = [0; 24];
+    let mut order = [0; 24];
+    let mut known = [false; 24];
+    let mut met = 0;
     let mut i = 0;
     while i < count {
         let next = i + 1;
-        if numbers[i] == key {
-            votes = votes + 1;
+        let key = numbers[i];
+        let at = key as usize;
+        votes[at] = votes[at] + 1;
+        if !known[at] {
+            known[at] = true;
+            order[met] = key;
+            met = met + 1;
         }
         i = next;
     }
-    votes
+    Tally { votes, order, met }
+}
+
+// The key with the most votes, the last of equals.
+fn most_voted(tally: Tally) -> u8
+    requires { ⌜ (tally .met ≤ 24) × (tally .met ≤ length (tally .order)) × Numbered (tally .order) (tally .met) ⌝ }
+    ensures { λ r. ⌜ r ≡ mostVoted tally ⌝ }
+{
+    let mut leading = 0;
+    let mut most = 0;
+    let mut j = 0;
+    while j < tally.met {
+        let next = j + 1;
+        let key = tally.order[j];
+        let votes = tally.votes[key as usize];
+        if most <= votes {
+            leading = key;
+            most = votes;
+        }
+        j = next;
+    }
+    leading
 }
 
 // The number that most are, of equal counts the one first met last.
 pub fn majority_key(numbers: &[u8]) -> u8
-    requires { ⌜ 0 < length (now numbers) ⌝ }
+    requires { ⌜ Numbered (now numbers) (length (now numbers)) ⌝ }
     ensures { λ r. ⌜ r ≡ majorityOf (now (numbers .entry)) ⌝ }
 {
-    let count = numbers.len();
-    let mut leading = numbers[0];
-    let mut most = count_votes(numbers, leading);
-    let mut i = 1;
-    while i < count {
-        let next = i + 1;
-        let key = numbers[i];
-        if first_place(numbers, i, key) == i {
-            let votes = count_votes(numbers, key);
-            if most <= votes {
-                leading = key;
-                most = votes;
-            }
-        }
-        i = next;
-    }
-    leading
+    let tally = count_votes(numbers);
+    most_voted(tally)
 }

@@ -25,7 +25,7 @@ use Rattle.segments.specs.declared.track.Located.{Located}
 use Rattle.probe_segments.specs.Segments.{isNumber, allNumbers, probedShorten, cutFits, probedCut, heardIn, fitsIn, counted, countedBy, probed, probedSegments}
 use Rattle.probe_segments.specs.declared.segments_of_frames.ProbedSegments.{ProbedSegments}
 
-numbered : (keys : List ℕ) (count : ℕ) → allNumbers keys count ≡ true → Numbered keys count
+pub numbered : (keys : List ℕ) (count : ℕ) → allNumbers keys count ≡ true → Numbered keys count
 numbered keys count e i h = ltb→lt (getD keys i 0) 24 (each (isNumber keys) count (subst T (sym e) tt) i h)
 
 -- what a guard's flag says of what it stands for

@@ -26,10 +26,6 @@ use Rattle.alternates.specs.declared.alternate.Alternate.{Alternate}
 use Rattle.probe_segments.specs.declared.segments_of_rows.ProbedAlternate.{ProbedAlternate}
 use Rattle.probe_segments.specs.declared.segments_of_frames.ProbedSegments.{ProbedSegments}
 
--- the majority, and 0 where there are no numbers
-abbrev pub probedMajority : List ℕ → ℕ
-probedMajority numbers = cond (eqb (length numbers) 0) 0 (majorityOf numbers)
-
 -- number i is a key's
 abbrev pub isNumber : List ℕ → ℕ → Bool
 isNumber keys i = ltb (getD keys i 0) 24
@@ -37,6 +33,10 @@ isNumber keys i = ltb (getD keys i 0) 24
 -- each of the first keys is a key's number
 abbrev pub allNumbers : List ℕ → ℕ → Bool
 allNumbers keys count = every (isNumber keys) count
+
+-- the majority, and 0 where a number is above 23
+abbrev pub probedMajority : List ℕ → ℕ
+probedMajority numbers = cond (allNumbers numbers (length numbers)) (majorityOf numbers) 0
 
 -- all rows shortened; nothing where a key is above 23
 abbrev pub probedShorten : Float → SegmentRows → Filled

@@ -23,17 +23,6 @@ pub struct ProbedAlternate {
     pub coverage: f32,
 }
 
-// The majority, and 0 where there are no numbers.
-#[no_mangle]
-pub extern "C" fn probe_majority(numbers: &[u8]) -> u8
-    ensures { λ r. ⌜ r ≡ probedMajority (now (numbers .entry)) ⌝ }
-{
-    if numbers.len() == 0 {
-        return 0;
-    }
-    majority_key(numbers)
-}
-
 // Whether each of the first numbers is a key's.
 fn all_numbers(numbers: &[u8], count: usize) -> bool
     requires { ⌜ count ≤ length (now numbers) ⌝ }
@@ -46,6 +35,17 @@ fn all_numbers(numbers: &[u8], count: usize) -> bool
         i += 1;
     }
     sofar
+}
+
+// The majority, and 0 where a number is above 23.
+#[no_mangle]
+pub extern "C" fn probe_majority(numbers: &[u8]) -> u8
+    ensures { λ r. ⌜ r ≡ probedMajority (now (numbers .entry)) ⌝ }
+{
+    if all_numbers(numbers, numbers.len()) {
+        return majority_key(numbers);
+    }
+    0
 }
 
 // All rows shortened; nothing where a key is above 23.

@@ -4,7 +4,8 @@ use Rattle.laws.specs.Turns.{turns}
 use Rattle.laws.specs.Every.{every}
 use Rattle.laws.specs.Front.{list}
 use Rattle.laws.specs.Values.{magnitudeOf}
-use Rattle.laws.specs.Leader.{firstMet, leaderTurn, leaderOf}
+use Rattle.laws.specs.Lists.{passing, fold}
+use Rattle.laws.specs.Leader.{without, keysMet, lastLargest}
 use Rattle.laws.specs.Order.{totalOrder}
 use Rattle.laws.specs.Convert.{converted}
 use Rattle.laws.specs.Pick.{maximumNumber, minimumNumber, clampedTo}
@@ -20,11 +21,11 @@ use Rattle.key_choice.specs.Places.{placed, candidateAt, placesOf}
 use Rattle.key_choice.specs.Classify.{louder, chosenKey, confidenceOf, classifiedOf}
 use Rattle.laws.specs.First.{first}
 use Rattle.timeline.specs.Segments.{seconds, short, joined}
-use Rattle.majorities.specs.Majority.{countOf, majorityOf}
+use Rattle.majorities.specs.Majority.{votesOf, majorityOf}
 use Rattle.splits.specs.Splits.{splits}
 use Rattle.groups.specs.Groups.{borderAfter, innerBorders, groupOf, segmentsBetween, groupsOf}
 use Rattle.shortening.specs.Shorten.{firstShort, keeper, joinAt, unsettled, joinShort, shorten, shortenedOf}
-use Rattle.alternates.specs.Alternate.{heard, lasting, totalOf, numberAt, lastsIn, secondsTurn, secondsOf, rivals, rivalOf, coverageOf, lacks, alternateOf}
+use Rattle.alternates.specs.Alternate.{heldSeconds, lasting, totalOf, lastsIn, secondsOf, lastingKeys, rivalOf, coverageOf, lacks, alternateOf}
 use Rattle.bits.specs.Bits.{bitsOf, numberOf, bytesCut}
 use Rattle.card_writer.specs.Form.{segmentsBits, cardBytes}
 use Rattle.card.specs.Rules.{headerBroken, segmentBroken, cardBroken}
@@ -33,5 +34,5 @@ use Rattle.answers.specs.Answer.{keyless}
 use Rattle.sixteen.specs.Rows.{rowA, rowB, rowC, rowD, rowE, rowF, rowG, rowH, rowI, rowJ, rowK, rowL, rowM, rowN, rowO, rowP, rows, RowsHold}
 
 pub rows-hold : RowsHold
-unfolding rows rowA rowB rowC rowD rowE rowF rowG rowH rowI rowJ rowK rowL rowM rowN rowO rowP first firstMet leaderTurn leaderOf totalOrder converted minimumNumber seconds short joined countOf majorityOf splits borderAfter innerBorders groupOf segmentsBetween groupsOf firstShort keeper joinAt unsettled joinShort shorten shortenedOf heard lasting totalOf numberAt lastsIn secondsTurn secondsOf rivals rivalOf coverageOf lacks alternateOf le bitsOf numberOf bytesCut segmentsBits cardBytes headerBroken segmentBroken cardBroken unequal unwritable keyless classOf blended readAt shifted floored ofInt toSigned every isNan lt eq add sub mul div neg toBits ofBits turns list magnitudeOf maximumNumber clampedTo sumOf wholeRoot doubledRoot rootOfUnits rootOf tonics profiles profileAt sumsOf quotientOf correlationOf scoreOf scoresOf placed candidateAt placesOf louder chosenKey confidenceOf classifiedOf
+unfolding rows rowA rowB rowC rowD rowE rowF rowG rowH rowI rowJ rowK rowL rowM rowN rowO rowP first passing fold without keysMet lastLargest totalOrder converted minimumNumber seconds short joined votesOf majorityOf splits borderAfter innerBorders groupOf segmentsBetween groupsOf firstShort keeper joinAt unsettled joinShort shorten shortenedOf heldSeconds lasting totalOf lastsIn secondsOf lastingKeys rivalOf coverageOf lacks alternateOf le bitsOf numberOf bytesCut segmentsBits cardBytes headerBroken segmentBroken cardBroken unequal unwritable keyless classOf blended readAt shifted floored ofInt toSigned every isNan lt eq add sub mul div neg toBits ofBits turns list magnitudeOf maximumNumber clampedTo sumOf wholeRoot doubledRoot rootOfUnits rootOf tonics profiles profileAt sumsOf quotientOf correlationOf scoreOf scoresOf placed candidateAt placesOf louder chosenKey confidenceOf classifiedOf
 rows-hold = tt

@@ -1,12 +1,16 @@
 -- Each return is a branch of the definition.
-use mathlib.Core.Path.{_∙_, ap}
-use Prim.Native.Nat.{ℕ}
+use mathlib.Core.Path.{_∙_, sym, ap, subst}
+use mathlib.Core.List.{List}
+use Prim.Native.Nat.{ℕ, _<_}
 use lib.Ieee.{ofBits}
 use borrow.Author.Needs.{needs}
 use Rattle.keys.specs.Numbers.{keyNumber}
+use Rattle.keys.proofs.Placed.{numbers-are-keys}
 use Rattle.timeline.specs.Segments.{SegmentRows, lentSegments, segmentsIn}
+use Rattle.timeline.specs.declared.segment.Segment.{Segment}
 use Rattle.alternates.specs.Alternate.{rivalOf}
-use Rattle.alternates.proofs.Branches.{none-asked, all-instants, rival-judged}
+use Rattle.alternates.proofs.Noting.{noted-fits, rival-told}
+use Rattle.alternates.proofs.Branches.{none-asked, all-instants, rival-named}
 use Rattle.alternates.proofs.alternate.alternate_key.Statement.{statement}
 use Rattle.alternates.proofs.alternate.alternate_key.Tie as tie
 
@@ -32,8 +36,19 @@ returns-2 c =
 key-number-requires : tie.Need-key-number-requires
 key-number-requires c κs = search needs
 
-find-rival-requires : tie.Need-find-rival-requires
-find-rival-requires c κs = search needs
+-- the reported key is a key's number
+numbered : (c : tie.After-key-number) → c .key-number .result < 24
+numbered c = subst (λ (n : ℕ). n < 24) (sym (c .key-number .ensures)) (numbers-are-keys .below (c .before .before .before .before .before .before .before .before .args .reported))
+
+-- the segments that the call is lent
+abbrev segments : tie.Start → List Segment
+segments s = segmentsIn (rows s) (s .args .count)
+
+note-segments-requires : tie.Need-note-segments-requires
+note-segments-requires c κs = (numbered c, search needs)
+
+find-leader-requires : tie.Need-find-leader-requires
+find-leader-requires c κs = noted-fits (c .before .key-number .result) (numbered (c .before)) (segments (c .before .before .before .before .before .before .before .before .before)) (c .note-segments .ensures)
 
 judge-requires : tie.Need-judge-requires
 judge-requires c κs = search needs
@@ -41,11 +56,13 @@ judge-requires c κs = search needs
 returns-3 : tie.Need-returns-3
 unfolding ofBits
 returns-3 c =
-    let total = c .before .before .before .before in
+    let noted = c .before .before in
+    let number = noted .before in
+    let total = number .before .before in
     let s = total .before .before .before .before .before .before in
-    let rival = c .before .find-rival .ensures ∙ ap (λ (key : ℕ). rivalOf key (segmentsIn (rows s) (s .args .count))) (c .before .before .key-number .ensures) in
+    let rival = c .before .find-leader .ensures ∙ rival-told (number .key-number .result) (numbered number) (segments s) (noted .note-segments .ensures) ∙ ap (λ (key : ℕ). rivalOf key (segments s)) (number .key-number .ensures) in
     c .judge .ensures
-    ∙ rival-judged (rows s) (s .args .count) (keyNumber (s .args .reported)) (s .args .threshold) (total .before .if1 .left) (total .total-seconds .ensures) (c .before .before .before .if2 .left) rival
+    ∙ rival-named (rows s) (s .args .count) (keyNumber (s .args .reported)) (s .args .threshold) (total .before .if1 .left) (total .total-seconds .ensures) (number .before .if2 .left) rival
 
 pub alternate-key-spec : {M : Type 1} → statement M
 alternate-key-spec =
@@ -55,6 +72,7 @@ alternate-key-spec =
     total-seconds-requires
     returns-2
     key-number-requires
-    find-rival-requires
+    note-segments-requires
+    find-leader-requires
     judge-requires
     returns-3)

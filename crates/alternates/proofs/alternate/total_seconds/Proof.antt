@@ -1,23 +1,22 @@
--- The loop's invariant: the turns that are left lead from the sum so far to the whole one.
-use mathlib.Core.Path.{_≡_, ap, _∙_}
-use Prim.Native.Nat.{_-_, _≤_, zero-le}
+-- The loop's invariant: the sum so far is that of the first i segments.
+use mathlib.Core.Path.{_≡_, refl, sym, ap, _∙_}
+use mathlib.Core.List.{List}
+use Prim.Native.Nat.{ℕ, _-_, _≤_, zero-le}
 use native.Mathlib.Omega.{arith}
-use lib.Ieee.{binary64, ofBits, neg, add}
+use lib.Ieee.{Float, binary64, ofBits, neg, add}
 use borrow.Author.Needs.{needs}
-use Rattle.laws.specs.Values.{minusZero}
-use Rattle.laws.specs.Turns.{turns}
-use Rattle.laws.proofs.Turns.{turns-again, turns-end}
-use Rattle.timeline.specs.Segments.{SegmentRows, segmentRows, lentSegments, segmentsIn}
-use Rattle.longest.proofs.Rows.{read-at, rows-start}
+use Rattle.laws.specs.Front.{list}
+use Rattle.laws.specs.Lists.{fold}
+use Rattle.laws.proofs.Front.{list-more}
+use Rattle.timeline.specs.Segments.{SegmentRows, segmentRows, lentSegments, segmentIn, segmentsIn}
 use Rattle.timeline.specs.declared.segment.Segment.{Segment}
-use Rattle.alternates.specs.Alternate.{heard, totalTurn, totalOf}
+use Rattle.alternates.specs.Alternate.{heldSeconds, totalOf}
+use Rattle.alternates.proofs.Sums.{total-more}
 use Rattle.alternates.proofs.alternate.total_seconds.Statement.{statement}
 use Rattle.alternates.proofs.alternate.total_seconds.Tie as tie
 
 abbrev Inv-loop : tie.InvT-loop
-Inv-loop count starts ends keys confidences sum₀ i₀ sum i =
-    let segments = segmentsIn (segmentRows starts ends keys confidences) count in
-    (i ≤ count) × (turns (totalTurn segments) (count - i) i sum ≡ totalOf segments)
+Inv-loop count starts ends keys confidences sum₀ i₀ sum i = (i ≤ count) × (sum ≡ totalOf (segmentsIn (segmentRows starts ends keys confidences) i))
 
 abbrev μ-loop : tie.MeasureT-loop
 μ-loop count starts ends keys confidences sum₀ i₀ sum i = count - i
@@ -27,10 +26,8 @@ abbrev rows : tie.Start Inv-loop μ-loop → SegmentRows
 rows s = lentSegments (s .args .starts) (s .args .ends) (s .args .keys) (s .args .confidences)
 
 loop-holds : tie.Need-loop-holds Inv-loop μ-loop
-unfolding totalOf ofBits neg
-loop-holds c =
-    let s = c .before .before .before .before in
-    (zero-le, rows-start (rows s) (s .args .count) (totalTurn (segmentsIn (rows s) (s .args .count))) minusZero)
+unfolding totalOf list fold ofBits neg
+loop-holds c = (zero-le, refl)
 
 segment-at-requires : tie.Need-segment-at-requires Inv-loop μ-loop
 segment-at-requires c κs = search needs
@@ -50,14 +47,15 @@ loop-again c =
     let s = turn .before .before .before .before .before in
     let i = turn .loop .i in
     let inside = c .before .before .loop-test .taken in
-    let told = c .with-length .ensures ∙ ap (λ (x : Segment). add binary64 (turn .loop .sum) (heard x)) (read-at (rows s) (s .args .count) i inside (c .before .segment-at .ensures)) in
-    (omega (arith, inside), turns-again (totalTurn (segmentsIn (rows s) (s .args .count))) (s .args .count) i (turn .loop .inv .1) inside told)
+    let told = c .with-length .ensures ∙ ap (λ (x : Segment). add binary64 (turn .loop .sum) (heldSeconds x)) (c .before .segment-at .ensures) ∙ ap (λ (x : Float). add binary64 x (heldSeconds (segmentIn (rows s) i))) (turn .loop .inv .1) in
+    (omega (arith, inside), told ∙ sym (total-more (segmentsIn (rows s) i) (segmentIn (rows s) i)) ∙ ap totalOf (sym (list-more (segmentIn (rows s)) i)))
 
 returns : tie.Need-returns Inv-loop μ-loop
 returns c =
     let turn = c .before in
     let s = turn .before .before .before .before .before in
-    turns-end (totalTurn (segmentsIn (rows s) (s .args .count))) (s .args .count) (turn .loop .i) (turn .loop .inv .1) (c .loop-test .left)
+    let all : turn .loop .i ≡ s .args .count = omega (arith, turn .loop .inv .0, c .loop-test .left) in
+    turn .loop .inv .1 ∙ ap (λ (n : ℕ). totalOf (segmentsIn (rows s) n)) all
 
 pub total-seconds-spec : {M : Type 1} → statement M
 total-seconds-spec =

@@ -44,7 +44,7 @@ write-group-requires c κs =
     let cut = whole .before .before .before .before .before .loop .inv in
     let from : _≡_ {A = ℕ} _ _ = ap (λ (g : Group). g .from) (whole .group-of .ensures) in
     let to : _≡_ {A = ℕ} _ _ = ap (λ (g : Group). g .to) (whole .group-of .ensures) in
-    (omega (arith, from, to, cut .behind), omega (arith, to), omega (arith, to), omega (arith, to, cut .there .few), search needs)
+    (omega (arith, from, to, cut .behind), omega (arith, to), omega (arith, to), omega (arith, to, cut .there .few), λ i h. cut .there .numbered i (omega (arith, to, h)), search needs)
 
 add-n : tie.Need-add-n Inv-loop μ-loop
 add-n c = search needs
@@ -81,7 +81,7 @@ write-group-requires-2 c κs =
     let cut = whole .before .before .loop .inv in
     let from : _≡_ {A = ℕ} _ _ = ap (λ (g : Group). g .from) (whole .group-of2 .ensures) in
     let to : _≡_ {A = ℕ} _ _ = ap (λ (g : Group). g .to) (whole .group-of2 .ensures) in
-    (omega (arith, from, to, cut .behind), omega (arith, to), omega (arith, to), omega (arith, to, cut .there .few), search needs)
+    (omega (arith, from, to, cut .behind), omega (arith, to), omega (arith, to), omega (arith, to, cut .there .few), λ i h. cut .there .numbered i (omega (arith, to, h)), search needs)
 
 add-result : tie.Need-add-result Inv-loop μ-loop
 add-result c = search needs

@@ -5,7 +5,7 @@ use Rattle.groups.proofs.cut.segment_of_group.Statement.{statement}
 use Rattle.groups.proofs.cut.segment_of_group.Tie as tie
 
 majority-key-requires : tie.Need-majority-key-requires
-majority-key-requires c κs = search needs
+majority-key-requires c κs = c .before .before .pre .0
 
 stored-key-requires : tie.Need-stored-key-requires
 stored-key-requires c κs = search needs

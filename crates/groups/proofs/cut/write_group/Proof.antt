@@ -3,6 +3,7 @@ use borrow.Author.Needs.{needs}
 use mathlib.Core.Path.{ap, _∙_}
 use Rattle.timeline.specs.Segments.{segmentRows, putSegment}
 use Rattle.timeline.specs.declared.segment.Segment.{Segment}
+use Rattle.groups.proofs.Parts.{part-numbered}
 use Rattle.groups.proofs.cut.write_group.Statement.{statement}
 use Rattle.groups.proofs.cut.write_group.Tie as tie
 
@@ -28,7 +29,7 @@ part-segment-of-group-end-2 : tie.Need-part-segment-of-group-end-2
 part-segment-of-group-end-2 c = search needs
 
 segment-of-group-requires : tie.Need-segment-of-group-requires
-segment-of-group-requires c κs = search needs
+segment-of-group-requires c κs = let s = c .before .before .before .before .before .before .before .before in (part-numbered (s .args .numbers .now) (s .args .group .from) (s .args .group .to) (s .pre .0) (s .pre .1) (s .pre .4), search needs)
 
 put-segment-requires : tie.Need-put-segment-requires
 put-segment-requires c κs = search needs

@@ -1,49 +1,88 @@
--- A number a turn; no more are counted than were seen.
+-- The loop's invariant: what was counted and noted after i numbers.
 use borrow.Author.Needs.{needs}
-use Rattle.laws.specs.Turns.{turns}
-use Rattle.laws.proofs.Turns.{turns-start, turns-again, turns-end}
-use mathlib.Core.Path.{_≡_}
+use borrow.Author.Tests.{not-true, not-false}
+use mathlib.Core.Path.{_≡_, sym, ap, _∙_}
+use mathlib.Core.List.{List}
+use Prim.Native.Nat.{ℕ, _-_, _+_, _<_}
 use native.Mathlib.Omega.{arith}
-use Prim.Native.Nat.{_≤_, _-_}
-use lib.ListN.{length}
-use borrow.Author.Tests.{eq-eqb, ne-eqb}
-use Rattle.majorities.specs.Majority.{countTurn, countOf}
+use lib.ListN.{length, getD}
+use Rattle.majorities.proofs.Counting.{Counted, counted-start, votes-fit, unmet-fits, counted-new, counted-known, counted-all}
 use Rattle.majorities.proofs.majority.count_votes.Statement.{statement}
 use Rattle.majorities.proofs.majority.count_votes.Tie as tie
 
 abbrev Inv-loop : tie.InvT-loop
-Inv-loop numbers key count votes₀ i₀ votes i = (i ≤ length numbers) × (votes ≤ i) × (turns (countTurn numbers key) (length numbers - i) i votes ≡ countOf numbers key)
+Inv-loop numbers count votes₀ order₀ known₀ met₀ i₀ votes order known met i = Counted numbers votes order known met i
 
 abbrev μ-loop : tie.MeasureT-loop
-μ-loop numbers key count votes₀ i₀ votes i = length numbers - i
+μ-loop numbers count votes₀ order₀ known₀ met₀ i₀ votes order known met i = length numbers - i
+
+-- number i
+module _ (c : tie.After-shared-slice-known Inv-loop μ-loop) where
+  abbrev turn : tie.At-loop Inv-loop μ-loop
+  turn = c .before .before
+
+  abbrev numbers : List ℕ
+  numbers = turn .before .args .numbers .now
+
+  abbrev inside : turn .loop .i < length numbers
+  inside = c .before .loop-test .taken
+
+  below : getD numbers (turn .loop .i) 0 < 24
+  below = turn .before .pre (turn .loop .i) inside
 
 loop-holds : tie.Need-loop-holds Inv-loop μ-loop
-unfolding countOf
-loop-holds c = (omega arith, omega arith, turns-start _ _ _)
+loop-holds c = counted-start (c .args .numbers .now)
 
 add-next : tie.Need-add-next Inv-loop μ-loop
 add-next c = search needs
 
-shared-slice-read-if1 : tie.Need-shared-slice-read-if1 Inv-loop μ-loop
-shared-slice-read-if1 c = search needs
+shared-slice-read-key : tie.Need-shared-slice-read-key Inv-loop μ-loop
+shared-slice-read-key c = search needs
+
+cast-at : tie.Need-cast-at Inv-loop μ-loop
+cast-at c = omega (arith, below c)
+
+mul-votes : tie.Need-mul-votes Inv-loop μ-loop
+mul-votes c = omega (arith, below c)
+
+array-read-votes : tie.Need-array-read-votes Inv-loop μ-loop
+array-read-votes c = below c
 
 add-votes : tie.Need-add-votes Inv-loop μ-loop
-add-votes c = search needs
+add-votes c = omega (arith, votes-fit (numbers c) _ _ _ _ _ (turn c .loop .inv) (inside c) (below c), inside c)
+
+mul-votes-2 : tie.Need-mul-votes-2 Inv-loop μ-loop
+mul-votes-2 c = omega (arith, below c)
+
+array-write-votes : tie.Need-array-write-votes Inv-loop μ-loop
+array-write-votes c = below c
+
+array-read-if1 : tie.Need-array-read-if1 Inv-loop μ-loop
+array-read-if1 c = below c
+
+array-write-known : tie.Need-array-write-known Inv-loop μ-loop
+array-write-known c = below (c .before)
+
+array-write-order : tie.Need-array-write-order Inv-loop μ-loop
+array-write-order c = unmet-fits (numbers (c .before)) _ _ _ _ _ (turn (c .before) .loop .inv) (inside (c .before)) (below (c .before)) _ (not-true _ (c .if1 .taken))
+
+add-met : tie.Need-add-met Inv-loop μ-loop
+add-met c = omega (arith, unmet-fits (numbers (c .before)) _ _ _ _ _ (turn (c .before) .loop .inv) (inside (c .before)) (below (c .before)) _ (not-true _ (c .if1 .taken)))
 
 loop-less : tie.Need-loop-less Inv-loop μ-loop
 loop-less c = search needs
 
 loop-again : tie.Need-loop-again Inv-loop μ-loop
-loop-again c = let turn = c .before .before .before in (omega arith, omega arith, turns-again _ (length (turn .before .args .numbers .now)) (turn .loop .i) (turn .loop .inv .2) (c .before .before .loop-test .taken) (rw (eq-eqb _ _ (c .if1 .taken))))
+loop-again c = counted-new (numbers (c .before)) _ _ _ _ _ (turn (c .before) .loop .inv) (inside (c .before)) (below (c .before)) _ (not-true _ (c .if1 .taken))
 
 loop-less-2 : tie.Need-loop-less-2 Inv-loop μ-loop
 loop-less-2 c = search needs
 
 loop-again-2 : tie.Need-loop-again-2 Inv-loop μ-loop
-loop-again-2 c = let turn = c .before .before .before in (omega arith, omega arith, turns-again _ (length (turn .before .args .numbers .now)) (turn .loop .i) (turn .loop .inv .2) (c .before .before .loop-test .taken) (rw (ne-eqb _ _ (c .if1 .left))))
+loop-again-2 c = counted-known (numbers (c .before)) _ _ _ _ _ (turn (c .before) .loop .inv) (inside (c .before)) (below (c .before)) _ (not-false _ (c .if1 .left))
 
 returns : tie.Need-returns Inv-loop μ-loop
-returns c = let turn = c .before in turns-end _ (length (turn .before .args .numbers .now)) (turn .loop .i) (turn .loop .inv .2) (c .loop-test .left)
+returns c = counted-all (c .before .before .args .numbers .now) _ _ _ _ (c .before .loop .i) (c .before .loop .inv) (c .loop-test .left)
 
 pub count-votes-spec : {M : Type 1} → statement M
 count-votes-spec =
@@ -53,8 +92,17 @@ count-votes-spec =
     μ-loop
     loop-holds
     add-next
-    shared-slice-read-if1
+    shared-slice-read-key
+    cast-at
+    mul-votes
+    array-read-votes
     add-votes
+    mul-votes-2
+    array-write-votes
+    array-read-if1
+    array-write-known
+    array-write-order
+    add-met
     loop-less
     loop-again
     loop-less-2
