@@ -93,12 +93,13 @@ typedef struct UlypteshScoresResult {
     uint32_t refusal;
 } UlypteshScoresResult;
 
-/* The key of a chroma. Refused: key 24 and zeros. */
+/* The key of a chroma. Refused: key 24 and zeros. A chroma with a NaN or an infinity, or whose sums overflow, has NaNs
+   for scores: the key is then C major. */
 typedef struct UlypteshKeyResult {
     uint32_t refusal;
     uint32_t key;
-    float best, second; /* the best score and the second */
-    float confidence; /* from 0 to 1 */
+    float best, second; /* the best score and the second; -infinity where the scores are NaNs */
+    float confidence; /* from 0 to 1; a NaN where the scores are NaNs */
 } UlypteshKeyResult;
 
 /* length: how many bytes were written; 0 where the call is refused. */
@@ -114,16 +115,17 @@ typedef struct UlypteshFramesResult {
     uint64_t count;
 } UlypteshFramesResult;
 
-/* What is told of a track. Without a key (refused, or none to tell) the three keys are 24 and the floats 0. */
+/* What is told of a track. Without a key (refused, or none to tell) the three keys are 24 and the floats 0. Where it is
+   said that a NaN is not ruled out, none was ever met: the frames that it rests on are finite. */
 typedef struct UlypteshAnalyseResult {
     uint32_t refusal;
     uint64_t position; /* of the frame that refusal 9 is about, else 0 */
     uint32_t key, dsp_key; /* the key that is reported; the two are the same */
     uint32_t alternate; /* another key that much of the track is in, or 24 */
     float coverage; /* the part of the track that is in the alternate, or 0 */
-    float confidence; /* of the key, from 0 to 1 */
+    float confidence; /* of the key, from 0 to 1; a NaN is not ruled out */
     uint64_t frames, estimates, segments; /* how many rows of each kind are written */
-    float chroma[ULYPTESH_PITCH_CLASSES]; /* of the whole track */
+    float chroma[ULYPTESH_PITCH_CLASSES]; /* of the whole track; a NaN is not ruled out */
 } UlypteshAnalyseResult;
 
 /* Writes the loud frames of a track. P, the frame positions, is (samples - frame size) / hop size, rounded down,
@@ -140,8 +142,8 @@ UlypteshFramesResult *ulyptesh_frames(
     const float *q_coefficients, size_t q_coefficient_count, /* as many as lengths; -2 to 2 */
     const float *q_windows, size_t q_window_count, /* the sum of lengths; 0 to 1: the rows' windows, end to end */
     double *centres, size_t centre_count, /* P; the loud frames' centres in seconds, from the front */
-    float (*values)[ULYPTESH_PITCH_CLASSES], size_t value_count, /* P; their chromas, from the front */
-    float *energies, size_t energy_count); /* P; their energies, from the front */
+    float (*values)[ULYPTESH_PITCH_CLASSES], size_t value_count, /* P; their chromas, finite, from the front */
+    float *energies, size_t energy_count); /* P; their energies, finite, from the front */
 
 /* Analyses a track. P and what is read are as above. W, the windows, is how many of the starts 0, hop, hop + hop and so
    on (f64 sums) lie a window or more before the end; 1 where the duration is below window + hop. */
@@ -162,16 +164,16 @@ UlypteshAnalyseResult *ulyptesh_analyse(
     float *work, size_t work_count, /* P; zeros from the front, one to a loud frame, unless 9 is answered */
     double *middles, size_t middle_count, /* W; the estimates' middles in seconds, from the front */
     uint8_t *numbers, size_t number_count, /* W; their keys, from the front */
-    float *certainties, size_t certainty_count, /* W; their confidences, from the front */
+    float *certainties, size_t certainty_count, /* W; their confidences, from the front; a NaN is not ruled out */
     double *starts, size_t start_count, /* W; the segments' starts in seconds, then a zero for each one joined away */
     double *ends, size_t end_count, /* W; their ends in seconds, then zeros likewise */
     uint8_t *keys, size_t key_count, /* W; their keys, then zeros likewise */
-    float *confidences, size_t confidence_count); /* W; their confidences, then zeros likewise */
+    float *confidences, size_t confidence_count); /* W; their confidences, then zeros; a NaN is not ruled out */
 
 /* Writes the scores of the 24 keys of a chroma. */
 UlypteshScoresResult ulyptesh_scores(
     const float *chroma, size_t chroma_count, /* 12, exactly */
-    float *scores, size_t score_count); /* 24; the scores by key number, from the front */
+    float *scores, size_t score_count); /* 24; the scores by key number, from the front; NaNs as told above */
 
 /* The key of a chroma. */
 UlypteshKeyResult *ulyptesh_key(

@@ -23,7 +23,7 @@ use Rattle.laws.proofs.Leader.{has, has-met, has-passing, has-place, fold-same,
 use Rattle.laws.proofs.Meeting.{Meets, meets-start, new-fits, meets-new, meets-known, met-few, met-back, met-below}
 use Rattle.keys.specs.Numbers.{keyNumber}
 use Rattle.keys.proofs.Placed.{numbers-are-keys}
-use Rattle.timeline.specs.Estimates.{Numbered}
+use Rattle.timeline.specs.inside.Estimates.{Numbered}
 use Rattle.timeline.specs.Segments.{emptied}
 use Rattle.timeline.specs.declared.segment.Segment.{Segment}
 use Rattle.alternates.specs.Alternate.{heldSeconds, lasting, lastsIn, summedFrom, secondsOf, lastingKeys, rivalOf}

@@ -27,7 +27,7 @@ use Rattle.gathering.specs.Gather.{Heard}
 use Rattle.windows.specs.declared.span.Span.{Span}
 use Rattle.one_frame.specs.declared.frame.Row.{Row}
 use Rattle.onsets.specs.Weighted.{weightedMedians}
-use Rattle.frames.specs.Run.{loudBefore, stopOf, holdingFrames}
+use Rattle.frames.specs.Run.{loudBefore, holdingFrames, stopAt}
 use Rattle.windows.specs.Run.{halts, estimatesOf}
 use Rattle.windows.proofs.Spans.{duration-under}
 use Rattle.segments.specs.Demand.{LaidOut}
@@ -47,7 +47,8 @@ use Rattle.verdicts.specs.Verdict.{faint, verdictOf}
 use Rattle.answers.specs.Answer.{counts, keyless, withAlternate}
 use Rattle.answers.specs.declared.answer.Counts.{Counts}
 use Rattle.verdicts.specs.declared.verdict.Verdict.{Verdict}
-use Rattle.rooms.specs.Lent.{Lent, withFrames, withSegments, workZeroed}
+use Rattle.rooms.specs.Lent.{Lent}
+use Rattle.rooms.specs.inside.With.{withFrames, withSegments, workZeroed}
 use Rattle.rooms.specs.Room.{hasty, tooSmall}
 use Rattle.rooms.proofs.Budget.{finite-ordered, passed-timed}
 use Rattle.reports.specs.Report.{namedIn, Report, report, reportOf}
@@ -161,7 +162,7 @@ module _ (c : Call) (typed : Typed (c .settings)) {crowded : Bool} {positions : 
   positions-keep : (l : Lent) → DemandThree c (positionsAnalysed c positions l)
   unfolding positionsAnalysed
   positions-keep l =
-      let k = stopOf c positions in
+      let k = stopAt c positions in
       let found = loudBefore c k in
       let held = withFrames (holdingFrames found (l .frames)) l in
       by-test (DemandThree c) (ltb k positions) (λ _. keyless-keeps c 9 k (length found) 0 held) (λ _. loud-keeps found held)

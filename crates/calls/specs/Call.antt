@@ -3,7 +3,8 @@ use Prim.Native.Nat.{ℕ, _+_, _-_, _/_}
 use mathlib.Core.List.{List}
 use denote.Ref.{RefT, now}
 use lib.Dec.{T}
-use lib.Ieee.{Float, binary32, fits}
+use lib.IntN.{pos}
+use lib.Ieee.{Float, binary32, binary64, fits, ofInt, div}
 use Rattle.calls.specs.declared.Settings.{Settings}
 use Rattle.calls.specs.declared.SheetHead.{SheetHead}
 
@@ -49,6 +50,10 @@ lentSheet head window coefficients weights lengths qCoefficients qWindows = shee
 abbrev pub given : Settings → SheetHead → RefT (List Float) → RefT (List Float) → RefT (List Float) → RefT (List Float) → RefT (List ℕ) → RefT (List Float) → RefT (List Float) → Call
 given settings head samples window coefficients weights lengths qCoefficients qWindows =
     callOf settings head (now samples) (now window) (now coefficients) (now weights) (now lengths) (now qCoefficients) (now qWindows)
+
+-- a sample's time in seconds
+unfoldable pub secondsAt : Settings → ℕ → Float
+secondsAt s sample = div binary64 (ofInt binary64 (pos sample)) (ofInt binary64 (pos (s .rate)))
 
 -- the longest track in seconds
 abbrev pub longestTrack : ℕ

@@ -1,9 +1,10 @@
 -- What a call is lent to write: frame rows, as three slices side by side. Definitions only.
-use Prim.Native.Nat.{ℕ, min}
-use mathlib.Core.List.{List}
+use Prim.Native.Nat.{ℕ}
+use mathlib.Core.List.{List, [], _∷_}
 use lib.ListN.{length}
 use denote.Ref.{RefT, now}
 use lib.Ieee.{Float}
+use Rattle.laws.specs.Front.{shortest}
 
 -- a row is a frame's centre in seconds, its chroma and its energy
 pub record Rows : Type 0 where
@@ -19,6 +20,6 @@ rows centres values energies = record { centres = centres; values = values; ener
 abbrev pub lentRows : RefT (List Float) → RefT (List (List Float)) → RefT (List Float) → Rows
 lentRows centres values energies = rows (now centres) (now values) (now energies)
 
--- how many rows there is room for: as many as in the shortest slice
+-- how many rows there is room for
 abbrev pub roomIn : Rows → ℕ
-roomIn r = min (length (r .centres)) (min (length (r .values)) (length (r .energies)))
+roomIn r = shortest (length (r .centres)) (length (r .values) ∷ length (r .energies) ∷ [])

@@ -11,7 +11,7 @@ use borrow.Author.Tests.{ltb-false}
 use Rattle.laws.proofs.First.{first-none}
 use Rattle.laws.proofs.Table.{none-of, left-failed, right-failed}
 use Rattle.card.specs.Layout.{Meaning, LayoutFits, HeaderFits, SegmentFits}
-use Rattle.card.specs.Rules.{headerTests, headerBroken, segmentTests, segmentBroken, segmentIn, before, brokenAt, firstBroken, cardBroken}
+use Rattle.card.specs.Rules.{headerTests, headerBroken, segmentTests, segmentBroken, before, brokenAt, firstBroken, cardBroken, cardSegment}
 use Rattle.card.specs.declared.layout.Layout.{Layout}
 use Rattle.card.specs.declared.layout.Header.{Header}
 use Rattle.card.specs.declared.layout.Segment.{Segment}
@@ -42,7 +42,7 @@ segment-fits l alone previous s fits good =
 -- all numbers of a card fit
 pub record CardFits (l : Layout) (m : Meaning) : Type 0 where
   pub header : HeaderFits l (m .header) (length (m .segments))
-  pub segment : (i : ℕ) → i < length (m .segments) → SegmentFits l (segmentIn (m .segments) i)
+  pub segment : (i : ℕ) → i < length (m .segments) → SegmentFits l (cardSegment (m .segments) i)
 
 pub card-fits : (l : Layout) (m : Meaning) → LayoutFits l → cardBroken l m ≡ false → CardFits l m
 unfolding cardBroken
@@ -53,7 +53,7 @@ card-fits l m fits good =
     let none : length ss ≤ firstBroken l ss = ltb-false (firstBroken l ss) (length ss) (right-failed header segments good) in
     record {
       header = header-fits l (m .header) (length ss) fits (left-failed header segments good);
-      segment = λ i h. segment-fits l (eqb (length ss) 1) (before 0 (λ (k : ℕ). segmentIn ss k .end) i) (segmentIn ss i) fits (ap (brokenAt l ss) (sym (zero-add i)) ∙ first-none (brokenAt l ss) (length ss) 0 (rw zero-add none) i h);
+      segment = λ i h. segment-fits l (eqb (length ss) 1) (before 0 (λ (k : ℕ). cardSegment ss k .end) i) (cardSegment ss i) fits (ap (brokenAt l ss) (sym (zero-add i)) ∙ first-none (brokenAt l ss) (length ss) 0 (rw zero-add none) i h);
     }
 
 -- a count that fits its width is small

@@ -61,12 +61,12 @@ before start at zero = start
 before start at (suc i) = at i
 
 -- segment i of several
-abbrev pub segmentIn : List Segment → ℕ → Segment
-segmentIn ss i = getD ss i (record { end = 0; key = 0; confidence = 0 })
+abbrev pub cardSegment : List Segment → ℕ → Segment
+cardSegment ss i = getD ss i (record { end = 0; key = 0; confidence = 0 })
 
 -- segment i breaks a rule
 abbrev pub brokenAt : Layout → List Segment → ℕ → Bool
-brokenAt l ss i = segmentBroken l (eqb (length ss) 1) (before 0 (λ (k : ℕ). segmentIn ss k .end) i) (segmentIn ss i)
+brokenAt l ss i = segmentBroken l (eqb (length ss) 1) (before 0 (λ (k : ℕ). cardSegment ss k .end) i) (cardSegment ss i)
 
 -- the first segment that does, or their count
 abbrev pub firstBroken : Layout → List Segment → ℕ

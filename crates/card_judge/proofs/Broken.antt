@@ -9,7 +9,7 @@ use lib.Ieee.{Float}
 use borrow.Author.Tests.{eqb-true, not-false}
 use Rattle.laws.proofs.Table.{none-of}
 use Rattle.laws.proofs.Front.{length-list, getD-list}
-use Rattle.card.specs.Rules.{headerBroken, segmentIn, before, segmentBroken, brokenAt, firstBroken, cardBroken}
+use Rattle.card.specs.Rules.{headerBroken, before, segmentBroken, brokenAt, firstBroken, cardBroken, cardSegment}
 use Rattle.card_judge.specs.Analysed.{Analysis, meaningOf, packedHeader, packedAt, packedSegments, unequal, firstGap, unwritable}
 use Rattle.card.specs.declared.layout.Layout.{Layout}
 use Rattle.card.specs.declared.layout.Segment.{Segment}
@@ -21,12 +21,12 @@ module _ (l : Layout) (ends : List Float) (keys : List ℕ) (confidences : List 
   pub segments-count : length ss ≡ length ends
   segments-count = length-list (packedAt l ends keys confidences) (length ends)
 
-  pub segment-packed : (i : ℕ) → i < length ends → segmentIn ss i ≡ packedAt l ends keys confidences i
+  pub segment-packed : (i : ℕ) → i < length ends → cardSegment ss i ≡ packedAt l ends keys confidences i
   segment-packed i h = getD-list (packedAt l ends keys confidences) (length ends) i _ h
 
   -- what was found of segment i is what the rules say of it
   pub told-broken : {flag : Bool} {s : Segment} {previous : ℕ} (i : ℕ) → i < length ends →
-      s ≡ packedAt l ends keys confidences i → previous ≡ before 0 (λ (k : ℕ). segmentIn ss k .end) i → flag ≡ segmentBroken l (eqb (length ends) 1) previous s → brokenAt l ss i ≡ flag
+      s ≡ packedAt l ends keys confidences i → previous ≡ before 0 (λ (k : ℕ). cardSegment ss k .end) i → flag ≡ segmentBroken l (eqb (length ends) 1) previous s → brokenAt l ss i ≡ flag
   told-broken i h s p f = rw (segments-count, segment-packed i h, f, s, p)
 
 -- ---- an analysis, test by test

@@ -9,7 +9,7 @@ use lib.Seq.{take-at, drop-at}
 use Rattle.bits.specs.Bits.{bitsOf, numberOf, bitsOfBytes, bytesFor}
 use Rattle.card.specs.Layout.{Meaning, HeaderFits, SegmentFits}
 use Rattle.card_writer.specs.Form.{headerBits, segmentWidth, segmentBits, segmentsBits, cardBits, cardBytes}
-use Rattle.card.specs.Rules.{segmentIn}
+use Rattle.card.specs.Rules.{cardSegment}
 use Rattle.card_writer.specs.Writing.{OneMeaningOneCard}
 use Rattle.card.specs.declared.layout.Layout.{Layout}
 use Rattle.card.specs.declared.layout.Header.{Header}
@@ -80,7 +80,7 @@ same-segment l s t fs ft same =
 
 -- every segment fits
 abbrev AllFit : Layout → List Segment → Type 0
-AllFit l ss = (i : ℕ) → i < length ss → SegmentFits l (segmentIn ss i)
+AllFit l ss = (i : ℕ) → i < length ss → SegmentFits l (cardSegment ss i)
 
 same-segments : (l : Layout) (ss ts : List Segment) → length ss ≡ length ts → AllFit l ss → AllFit l ts → segmentsBits l ss ≡ segmentsBits l ts → ss ≡ ts
 unfolding segmentsBits

@@ -11,7 +11,7 @@ use Rattle.laws.specs.Values.{plusZero}
 use Rattle.laws.proofs.Turns.{turns-part}
 use Rattle.laws.proofs.Front.{getD-list}
 use Rattle.correlations.specs.declared.lanes.Lanes.{Lanes}
-use Rattle.correlations.specs.Correlation.{meanOf, deviation, rotated, productTurn, chromaTurn, profileTurn, sumsOf, correlationOf}
+use Rattle.correlations.specs.Correlation.{meanOf, deviation, rotated, sumsOf, correlationOf}
 use Rattle.correlations.specs.Deviations.{deviationsOf, deviationEnergyTurn, deviationEnergy, backward, wheelOf}
 use Rattle.correlations.specs.Lanes.{four, productAdded, addedFour, lanesTurn, noLanes, lanesOf, quotientAt, quotientsOf, twelve, turnedOf}
 
@@ -28,6 +28,16 @@ wheel-at values root i j r h e =
     getD-list (λ (k : ℕ). getD (deviationsOf values) (backward k) nan) 23 j nan (omega arith)
     ∙ away-at values (backward j) (omega arith)
     ∙ ap (λ (k : ℕ). deviation values (meanOf values) (k % 12)) turned
+
+-- ---- the three sums' turns
+abbrev productTurn : List Float → List Float → ℕ → Float → Float → ℕ → Float → Float
+productTurn chroma profile root mean profileMean i sum = add binary32 sum (mul binary32 (deviation chroma mean i) (deviation profile profileMean (rotated root i)))
+
+abbrev chromaTurn : List Float → Float → ℕ → Float → Float
+chromaTurn chroma mean i sum = add binary32 sum (mul binary32 (deviation chroma mean i) (deviation chroma mean i))
+
+abbrev profileTurn : List Float → ℕ → Float → ℕ → Float → Float
+profileTurn profile root profileMean i sum = add binary32 sum (mul binary32 (deviation profile profileMean (rotated root i)) (deviation profile profileMean (rotated root i)))
 
 -- the chroma's squares
 energy-is : (chroma : List Float) → deviationEnergy (deviationsOf chroma) ≡ turns (chromaTurn chroma (meanOf chroma)) 12 0 plusZero

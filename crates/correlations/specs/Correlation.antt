@@ -22,25 +22,16 @@ deviation values mean i = sub binary32 (getD values i nan) mean
 abbrev pub rotated : ℕ → ℕ → ℕ
 rotated root i = (i + 12 - root) % 12
 
--- ---- three sums over the pitch classes from C up: products, and squares of either side; the profile's squares are summed in rotated order
-abbrev pub productTurn : List Float → List Float → ℕ → Float → Float → ℕ → Float → Float
-productTurn chroma profile root mean profileMean i sum = add binary32 sum (mul binary32 (deviation chroma mean i) (deviation profile profileMean (rotated root i)))
+-- the products of two rows of deviations, over the pitch classes from C up, summed from +0
+abbrev pub summed : (ℕ → Float) → (ℕ → Float) → Float
+summed a b = turns (λ (i : ℕ) (sum : Float). add binary32 sum (mul binary32 (a i) (b i))) 12 0 plusZero
 
--- one more of the chroma's squares
-abbrev pub chromaTurn : List Float → Float → ℕ → Float → Float
-chromaTurn chroma mean i sum = add binary32 sum (mul binary32 (deviation chroma mean i) (deviation chroma mean i))
-
--- one more of the profile's squares
-abbrev pub profileTurn : List Float → ℕ → Float → ℕ → Float → Float
-profileTurn profile root profileMean i sum = add binary32 sum (mul binary32 (deviation profile profileMean (rotated root i)) (deviation profile profileMean (rotated root i)))
-
--- the three sums, each from +0
+-- of chroma and profile, and of either with itself; the profile's squares are summed in rotated order too
 unfoldable pub sumsOf : List Float → List Float → ℕ → Float → Float → Sums
-sumsOf chroma profile root mean profileMean = record {
-  products = turns (productTurn chroma profile root mean profileMean) 12 0 plusZero;
-  «chroma_energy» = turns (chromaTurn chroma mean) 12 0 plusZero;
-  «profile_energy» = turns (profileTurn profile root profileMean) 12 0 plusZero;
-}
+sumsOf chroma profile root mean profileMean =
+    let a = deviation chroma mean in
+    let b = λ (i : ℕ). deviation profile profileMean (rotated root i) in
+    record { products = summed a b; «chroma_energy» = summed a a; «profile_energy» = summed b b }
 
 -- the products over the root of both squares, which is held up by epsilon
 unfoldable pub quotientOf : Sums → Float

@@ -12,7 +12,7 @@ use Rattle.laws.proofs.First.{first-within}
 use Rattle.calls.specs.Call.{Call}
 use Rattle.calls.specs.Rows.{Rows}
 use Rattle.one_frame.specs.Frame.{loud}
-use Rattle.frames.specs.Run.{energyAt, frameRow, notFiniteAt, loudBefore, stopOf}
+use Rattle.frames.specs.Run.{energyAt, frameRow, notFiniteAt, loudBefore, stopAt}
 use Rattle.frames.specs.inside.Rows.{Run, ran, runOf}
 use Rattle.one_frame.specs.declared.frame.Row.{Row}
 use Rattle.frames.specs.declared.run.Filled.{Filled}
@@ -44,7 +44,7 @@ either-count true k n = cc
 either-count false k n = cc
 
 pub run-left : (c : Call) (positions : ℕ) (before : Rows) {n : ℕ} {now : Rows} → ran (All n) now ≡ runOf c positions before → Left positions n now
-unfolding runOf stopOf
+unfolding runOf stopAt
 run-left c positions before {n} {now} e =
     let k = first (notFiniteAt c) positions 0 in
     let found = loudBefore c k in

@@ -17,9 +17,9 @@ use Rattle.laws.proofs.Every.{every-pair-of, each-more, each-pair-more}
 use Rattle.laws.proofs.Order.{le-refl, le-trans}
 use Rattle.laws.proofs.Nonneg.{positive→nonneg, nonneg→ordered, div-mono}
 use Rattle.laws.proofs.Parts.{whole-is, parts-clear, parts-mono}
-use Rattle.calls.specs.Call.{Call}
+use Rattle.calls.specs.Call.{Call, secondsAt}
 use Rattle.checks.proofs.Passed.{passed}
-use Rattle.one_frame.specs.Frame.{loud, middleOf, secondsAt, rowOf}
+use Rattle.one_frame.specs.Frame.{loud, middleOf, rowOf}
 use Rattle.frames.specs.Run.{energyAt, frameRow, loudBefore}
 use Rattle.frames.specs.Rising.{LoudCentresRise}
 use Rattle.one_frame.specs.declared.frame.Row.{Row}

@@ -25,7 +25,7 @@ use Rattle.blocks.specs.Stock.{Centred, Tuned, Stock, HandedOut}
 use Rattle.blocks.specs.declared.stock.Held.{Held}
 use Rattle.blocks.specs.declared.stock.Handed.{Handed}
 use Rattle.one_frame.specs.Frame.{loud, middleOf, rowFrom, rowOf, whole}
-use Rattle.frames.specs.Run.{energyAt, frameRow, notFiniteAt, loudBefore, stopOf, holdingFrames}
+use Rattle.frames.specs.Run.{energyAt, frameRow, notFiniteAt, loudBefore, holdingFrames, stopAt}
 use Rattle.frames.specs.inside.Rows.{put, ran, runTo, runOf, Ready}
 use Rattle.one_frame.specs.declared.frame.Row.{Row}
 use Rattle.frames.specs.declared.run.Filled.{Filled}
@@ -134,7 +134,7 @@ module _ {c : Call} {positions : ℕ} {before now : Rows} {k n : ℕ} (reached :
 
   -- what is left where the run ends at k
   left-at : (passed : Bool) → ltb k positions ≡ passed → k ≡ first (notFiniteAt c) positions 0 → ran (cond passed (NotFinite k n) (All n)) now ≡ runOf c positions before
-  unfolding runOf stopOf
+  unfolding runOf stopAt
   left-at passed t e =
       let found = loudBefore c k in
       let answer : cond passed (NotFinite k n) (All n) ≡ cond (ltb k positions) (NotFinite k (length found)) (All (length found)) = cc in

@@ -28,8 +28,8 @@ loudBefore c zero = []
 loudBefore c (suc k) = cond (loud (energyAt c k)) (loudBefore c k ++ (frameRow c k ∷ [])) (loudBefore c k)
 
 -- of so many positions the first that stops the run, or their number
-unfoldable pub stopOf : Call → ℕ → ℕ
-stopOf c positions = first (notFiniteAt c) positions 0
+unfoldable pub stopAt : Call → ℕ → ℕ
+stopAt c positions = first (notFiniteAt c) positions 0
 
 -- the lent rows once those found stand in the first places
 abbrev pub holdingFrames : List Row → Rows → Rows

@@ -12,7 +12,7 @@ use Rattle.checks.specs.Checks.{checked}
 use Rattle.checks.specs.declared.Checked.{Checked}
 use Rattle.checks.specs.declared.Checked.the-variants.{Refused, Empty, Go}
 use Rattle.checks.proofs.Passed.{passed}
-use Rattle.frames.specs.Run.{loudBefore, stopOf, holdingFrames}
+use Rattle.frames.specs.Run.{loudBefore, holdingFrames, stopAt}
 use Rattle.frames.specs.inside.Rows.{Run, ran, runOf}
 use Rattle.frames.specs.declared.run.Filled.{Filled}
 use Rattle.frames.specs.declared.run.Filled.the-variants.{All, NotFinite}
@@ -46,7 +46,7 @@ module _ (c : Call) (lent : Rows) where
   ran-found : (positions : ℕ) → let run = runOf c positions lent in framesOutcome (filledResult (run .answer)) (run .rows) ≡ framesFound c positions lent
   unfolding runOf framesFound
   ran-found positions =
-      let k = stopOf c positions in
+      let k = stopAt c positions in
       let found = loudBefore c k in
       ap (λ (a : FramesResult). framesOutcome a (holdingFrames found lent)) (by-stop (ltb k positions) k (length found))
 

@@ -8,7 +8,7 @@ use Rattle.calls.specs.Rows.{Rows, roomIn}
 use Rattle.checks.specs.Checks.{checked}
 use Rattle.checks.specs.declared.Checked.{Checked}
 use Rattle.checks.specs.declared.Checked.the-variants.{Refused, Empty, Go}
-use Rattle.frames.specs.Run.{loudBefore, stopOf, holdingFrames}
+use Rattle.frames.specs.Run.{loudBefore, holdingFrames, stopAt}
 use Rattle.frames_call.specs.declared.FramesResult.{FramesResult}
 
 -- 01's number, or 0; the position that 9 names; the count of rows
@@ -27,7 +27,7 @@ framesOutcome answer rows = record { answer = answer; rows = rows }
 -- the loud frames of so many positions, in front of what stood there: number 9 where a row that is not finite stops the run
 unfoldable pub framesFound : Call → ℕ → Rows → FramesOutcome
 framesFound c positions lent =
-    let k = stopOf c positions in
+    let k = stopAt c positions in
     let found = loudBefore c k in
     framesOutcome (cond (ltb k positions) (framesResult 9 k (length found)) (framesResult 0 0 (length found))) (holdingFrames found lent)
 

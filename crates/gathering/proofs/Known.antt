@@ -15,7 +15,7 @@ use Rattle.laws.proofs.Every.{handed-on}
 use Rattle.laws.proofs.First.{first-before, first-or-end, first-within, first-from}
 use Rattle.laws.proofs.Order.{lt→le, le-trans, lt-of-le-of-lt}
 use Rattle.laws.proofs.Turns.{turns-start, turns-between}
-use Rattle.gathering.specs.Gather.{Heard, heard, within, withFrame, noneGathered, gatherTurn, gatheredOf, gatheredAfter}
+use Rattle.gathering.specs.Gather.{Heard, heard, withFrame, noneGathered, gatherTurn, gatheredOf, gatheredAfter, inWindow}
 use Rattle.gathering.specs.Ahead.{rises, aheadOf, isFrom, firstFrom, skippedTo, isPast, stopOf, Known}
 use Rattle.gathering.specs.declared.ahead.Ahead.{Ahead}
 use Rattle.gathering.specs.declared.gather.Gathered.{Gathered}
@@ -101,11 +101,11 @@ module _ {h : Heard} {a : Ahead} {start : Float} (known : Known h a start) (end 
   stop-within at = subst (λ (k : ℕ). k ≤ h .frames) (sym at) (stops .high)
 
   -- a frame that is not within changes nothing
-  idle : (k : ℕ) (g : Gathered) → within start end (getD (h .centres) k nan) ≡ false → gatherTurn h start end k g ≡ g
+  idle : (k : ℕ) (g : Gathered) → inWindow start end (getD (h .centres) k nan) ≡ false → gatherTurn h start end k g ≡ g
   unfolding gatherTurn
   idle k g e = ap (λ (b : Bool). cond b (withFrame (getD (h .values) k []) g) g) e
 
-  before-start : (k : ℕ) → k < a .from → within start end (getD (h .centres) k nan) ≡ false
+  before-start : (k : ℕ) → k < a .from → inWindow start end (getD (h .centres) k nan) ≡ false
   before-start k l = ap (λ (b : Bool). b && lt (getD (h .centres) k nan) end) (known .behind k l)
 
   pub gathered-all : {stop : ℕ} {g : Gathered} → stop ≡ stopOf a end (h .centres) → g ≡ gatheredAfter (heard stop (h .centres) (h .values)) (a .from) start end → g ≡ gatheredOf h start end

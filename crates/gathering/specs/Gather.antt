@@ -20,8 +20,8 @@ abbrev pub heard : ℕ → List Float → List (List Float) → Heard
 heard frames centres values = record { frames = frames; centres = centres; values = values }
 
 -- start <= centre < end
-abbrev pub within : Float → Float → Float → Bool
-within start end centre = le start centre && lt centre end
+abbrev pub inWindow : Float → Float → Float → Bool
+inWindow start end centre = le start centre && lt centre end
 
 -- the same of what is gathered, from its parts
 abbrev pub gathered : List Float → ℕ → Gathered
@@ -33,7 +33,7 @@ withFrame values g = gathered (addedEach (g .chroma) values) (g .frames + 1)
 
 -- frame i counts where its centre is within
 unfoldable pub gatherTurn : Heard → Float → Float → ℕ → Gathered → Gathered
-gatherTurn h start end i g = cond (within start end (getD (h .centres) i nan)) (withFrame (getD (h .values) i []) g) g
+gatherTurn h start end i g = cond (inWindow start end (getD (h .centres) i nan)) (withFrame (getD (h .values) i []) g) g
 
 -- nothing yet
 abbrev pub noneGathered : Gathered

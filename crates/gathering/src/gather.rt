@@ -2,7 +2,7 @@
 ghost use mathlib.Core.Path.{_≡_};
 ghost use Prim.Native.Nat.{_+_, _^_, _<_, _≤_};
 ghost use lib.ListN.{length};
-ghost use Rattle.gathering.specs.Gather.{heard, within, withFrame, gatheredOf, gatheredAfter};
+ghost use Rattle.gathering.specs.Gather.{heard, withFrame, gatheredOf, gatheredAfter, inWindow};
 ghost use Rattle.gathering.specs.Ahead.{Known};
 use crate::ahead::Ahead;
 use crate::ahead::find_stop;
@@ -16,7 +16,7 @@ pub struct Gathered {
 
 // A frame counts where start <= centre < end.
 fn is_within(start: f64, end: f64, centre: f64) -> bool
-    ensures { λ r. ⌜ r ≡ within start end centre ⌝ }
+    ensures { λ r. ⌜ r ≡ inWindow start end centre ⌝ }
 {
     (start <= centre) & (centre < end)
 }

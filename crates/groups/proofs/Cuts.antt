@@ -10,8 +10,10 @@ use Rattle.laws.specs.Turns.{turns}
 use Rattle.laws.specs.Values.{plusZero}
 use Rattle.laws.proofs.Turns.{turns-start, turns-again, turns-end}
 use Rattle.laws.proofs.Front.{length-list, getD-list}
-use Rattle.timeline.specs.Estimates.{EstimateRows, Found, estimateIn, estimatesIn, noEstimate}
-use Rattle.timeline.specs.Segments.{SegmentRows, Room, filled, standing, putSegment, holdingSegments}
+use Rattle.timeline.specs.Estimates.{EstimateRows, noEstimate}
+use Rattle.timeline.specs.inside.Estimates.{Found, estimateIn, estimatesIn}
+use Rattle.timeline.specs.Segments.{SegmentRows, holdingSegments}
+use Rattle.timeline.specs.inside.Segments.{Room, filledRows, standing, putSegment}
 use Rattle.timeline.specs.declared.estimate.Estimate.{Estimate}
 use Rattle.timeline.specs.declared.segment.Segment.{Segment}
 use Rattle.timeline.proofs.Segments.{Holds, holds-start, holds-more, holds-all}
@@ -120,11 +122,11 @@ module _ {rows : EstimateRows} {threshold : Float} {found : ℕ} {before now : S
       edge = borderOf (estimateIn rows j) (estimateIn rows (j + 1))
 
   pub cut-end : {after : SegmentRows} (duration : Float) → found - 1 ≤ j → after ≡ putSegment (grouped start duration (between (rows .keys) from found) (between (rows .confidences) from found)) n now
-      → filled (n + 1) after ≡ standing (groupsOf threshold duration estimates) before
+      → filledRows (n + 1) after ≡ standing (groupsOf threshold duration estimates) before
   cut-end {after} duration h a =
       let long : length estimates ≡ found = length-list (estimateIn rows) found in
       let last = cut .done ++ (groupFrom estimates from found start duration ∷ []) in
       let here = holds-all last before after (written found duration (omega (arith, cut .behind, cut .upto)) (omega arith) a) in
       let all : last ≡ groupsOf threshold duration estimates = ap (λ (k : ℕ). cut .done ++ (groupFrom estimates from k start duration ∷ [])) (sym long) ∙ ap (closed estimates duration) (turns-end (cutTurn threshold estimates) (found - 1) j (cut .ahead) h ∙ ap (λ (k : ℕ). turns (cutTurn threshold estimates) (k - 1) 0 (cutting [] 0 plusZero)) (sym long)) ∙ sym (groups-loop threshold estimates duration) in
       let many : n + 1 ≡ length last = simp length-append (omega (arith, cut .count)) in
-      ap (filled (n + 1)) here ∙ ap (λ (k : ℕ). filled k (holdingSegments last before)) many ∙ ap (λ (l : List Segment). standing l before) all
+      ap (filledRows (n + 1)) here ∙ ap (λ (k : ℕ). filledRows k (holdingSegments last before)) many ∙ ap (λ (l : List Segment). standing l before) all

@@ -10,7 +10,8 @@ use Rattle.laws.specs.Front.{list}
 use Rattle.laws.proofs.Front.{length-list, list-same, map-list, front-own}
 use Rattle.keys.specs.Numbers.{keyNumber}
 use Rattle.keys.proofs.Placed.{numbers-are-keys}
-use Rattle.timeline.specs.Estimates.{EstimateRows, Numbered, Found, estimateIn, estimatesIn}
+use Rattle.timeline.specs.Estimates.{EstimateRows}
+use Rattle.timeline.specs.inside.Estimates.{Numbered, Found, estimateIn, estimatesIn}
 use Rattle.timeline.specs.declared.estimate.Estimate.{Estimate}
 use Rattle.groups.specs.Groups.{border, between, numbersOf, groupOf}
 use Rattle.groups.specs.Written.{grouped}

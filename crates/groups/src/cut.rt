@@ -3,8 +3,10 @@ ghost use mathlib.Core.Path.{_≡_};
 ghost use Prim.Native.Nat.{_+_, _<_, _≤_, _^_};
 ghost use lib.ListN.{length};
 ghost use Rattle.numbers.specs.Sum.{sumOf};
-ghost use Rattle.timeline.specs.Estimates.{Numbered, Found, lentEstimates, estimatesIn};
-ghost use Rattle.timeline.specs.Segments.{Room, lentSegments, putSegment, filled, standing};
+ghost use Rattle.timeline.specs.Estimates.{lentEstimates};
+ghost use Rattle.timeline.specs.inside.Estimates.{Numbered, Found, estimatesIn};
+ghost use Rattle.timeline.specs.Segments.{lentSegments};
+ghost use Rattle.timeline.specs.inside.Segments.{Room, putSegment, filledRows, standing};
 ghost use Rattle.groups.specs.Groups.{meanConfidence, groupsOf};
 ghost use Rattle.groups.specs.Written.{grouped, group, groupIn};
 use majorities::majority::majority_key;
@@ -110,7 +112,7 @@ pub fn cut_groups(
     confidences: &mut [f32],
 ) -> usize
     requires { ⌜ (0 < found) × Found (lentEstimates middles numbers certainties) found × Room (lentSegments starts ends keys confidences) found ⌝ }
-    ensures { λ r. ⌜ filled r (lentSegments (starts .exit) (ends .exit) (keys .exit) (confidences .exit)) ≡ standing (groupsOf threshold duration (estimatesIn (lentEstimates (middles .entry) (numbers .entry) (certainties .entry)) found)) (lentSegments (starts .entry) (ends .entry) (keys .entry) (confidences .entry)) ⌝ }
+    ensures { λ r. ⌜ filledRows r (lentSegments (starts .exit) (ends .exit) (keys .exit) (confidences .exit)) ≡ standing (groupsOf threshold duration (estimatesIn (lentEstimates (middles .entry) (numbers .entry) (certainties .entry)) found)) (lentSegments (starts .entry) (ends .entry) (keys .entry) (confidences .entry)) ⌝ }
 {
     let last = found - 1;
     let mut from = 0;

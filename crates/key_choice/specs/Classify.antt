@@ -30,6 +30,10 @@ chosenKey chroma p =
 unfoldable pub confidenceOf : Float → Float → Float
 confidenceOf best second = cond (lt epsilon (magnitudeOf best)) (clampedTo plusZero one (div binary32 (sub binary32 best second) (magnitudeOf best))) plusZero
 
+-- the confidence in what is told of a chroma
+abbrev pub certaintyOf : Classified → Float
+certaintyOf c = confidenceOf (c .best) (c .second)
+
 -- the chosen key with the scores of both places
 abbrev pub classified : List Float → List Float → Places → Classified
 classified chroma scores p = record { key = chosenKey chroma p; best = p .first .score; second = p .second .score; scores = scores }

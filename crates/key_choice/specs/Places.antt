@@ -29,13 +29,9 @@ unfoldable pub candidateAt : List Float → ℕ → Place
 candidateAt scores turn = record { key = keyAt (numberAt turn); score = getD scores (numberAt turn) nan }
 
 -- C major without a score, which every score but -∞ and a NaN is above
-abbrev pub nobody : Place
-nobody = record { key = keyAt 0; score = inf true }
-
--- one turn
-abbrev pub placeTurn : List Float → ℕ → Places → Places
-placeTurn scores turn p = placed p (candidateAt scores turn)
+abbrev pub unscored : Place
+unscored = record { key = keyAt 0; score = inf true }
 
 -- both places after all 24 keys
 unfoldable pub placesOf : List Float → Places
-placesOf scores = turns (placeTurn scores) 24 0 (ranked nobody nobody)
+placesOf scores = turns (λ (turn : ℕ) (p : Places). placed p (candidateAt scores turn)) 24 0 (ranked unscored unscored)

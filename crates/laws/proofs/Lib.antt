@@ -1,6 +1,5 @@
 -- The laws of specs/, loops and slices first, then floats.
 pub mod Turns
-pub mod Seek
 pub mod First
 pub mod Front
 pub mod Every

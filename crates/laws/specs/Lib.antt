@@ -1,5 +1,4 @@
 pub mod Turns
-pub mod Seek
 pub mod First
 pub mod Front
 pub mod Every

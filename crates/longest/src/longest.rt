@@ -1,7 +1,8 @@
 // The reported key: of several segments the longest one's.
 ghost use mathlib.Core.Path.{_≡_};
 ghost use Prim.Native.Nat.{_<_};
-ghost use Rattle.timeline.specs.Segments.{Room, lentSegments, segmentsIn};
+ghost use Rattle.timeline.specs.Segments.{lentSegments, segmentsIn};
+ghost use Rattle.timeline.specs.inside.Segments.{Room};
 ghost use Rattle.longest.specs.Longest.{longer, longestOf, reportedOf};
 use keys::Key;
 use numbers::double::total_before;

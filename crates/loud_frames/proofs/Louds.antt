@@ -14,7 +14,8 @@ use Rattle.one_frame.specs.declared.frame.Row.{Row}
 use Rattle.onsets.specs.Weighted.{weightedMedians}
 use Rattle.timeline.specs.Estimates.{EstimateRows}
 use Rattle.timeline.specs.Segments.{SegmentRows}
-use Rattle.rooms.specs.Lent.{Lent, lent, withSegments, workZeroed}
+use Rattle.rooms.specs.Lent.{Lent, lent}
+use Rattle.rooms.specs.inside.With.{withSegments, workZeroed}
 use Rattle.verdicts.specs.Verdict.{faint, verdictOf}
 use Rattle.answers.specs.Answer.{keyless}
 use Rattle.answers.specs.declared.answer.AnalyseResult.{AnalyseResult}

@@ -3,15 +3,17 @@ use Prim.Native.Nat.{ℕ}
 use mathlib.Core.Bool.{cond}
 use mathlib.Core.List.{List, map}
 use lib.Dec.{eqb}
-use lib.ListN.{length}
+use lib.ListN.{length, replicate}
 use lib.Ieee.{Float}
+use Rattle.laws.specs.Front.{front}
+use Rattle.laws.specs.Values.{plusZero}
 use Rattle.calls.specs.declared.Settings.{Settings}
 use Rattle.one_frame.specs.declared.frame.Row.{Row}
 use Rattle.onsets.specs.Weighted.{weightedMedians}
 use Rattle.timeline.specs.Estimates.{holdingEstimates}
 use Rattle.timeline.specs.Segments.{holdingSegments}
 use Rattle.gathering.specs.Gather.{Heard, heard}
-use Rattle.rooms.specs.Lent.{Lent, workZeroed, withSegments}
+use Rattle.rooms.specs.Lent.{Lent, lent}
 use Rattle.verdicts.specs.Verdict.{faint, verdictOf}
 use Rattle.answers.specs.Answer.{keyless}
 use Rattle.answers.specs.declared.answer.AnalyseResult.{AnalyseResult}
@@ -28,7 +30,7 @@ analyseOutcome answer lent = record { answer = answer; lent = lent }
 
 -- a report, with its estimates and segments in front of what stood in their rows
 abbrev pub reportLeft : Lent → Report → AnalyseOutcome
-reportLeft l r = analyseOutcome (r .answer) (withSegments (holdingEstimates (r .estimates) (l .estimates)) (holdingSegments (r .segments) (l .segments)) l)
+reportLeft l r = analyseOutcome (r .answer) (lent (l .frames) (l .work) (holdingEstimates (r .estimates) (l .estimates)) (holdingSegments (r .segments) (l .segments)))
 
 -- the chromas of the loud frames
 abbrev pub chromasOf : List Row → List (List Float)
@@ -48,4 +50,4 @@ mediansAnalysed s count found medians l =
 unfoldable pub loudAnalysed : Settings → ℕ → List Row → Lent → AnalyseOutcome
 loudAnalysed s count found l =
     cond (eqb (length found) 0) (analyseOutcome (keyless 0 0 0 0) l)
-    (mediansAnalysed s count found (weightedMedians (chromasOf found) (map (λ (r : Row). r .energy) found) (length found)) (workZeroed (length found) l))
+    (mediansAnalysed s count found (weightedMedians (chromasOf found) (map (λ (r : Row). r .energy) found) (length found)) (lent (l .frames) (front (replicate (length found) plusZero) (l .work)) (l .estimates) (l .segments)))

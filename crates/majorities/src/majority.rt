@@ -2,7 +2,7 @@
 ghost use mathlib.Core.Path.{_≡_};
 ghost use Prim.Native.Nat.{_≤_};
 ghost use lib.ListN.{length};
-ghost use Rattle.timeline.specs.Estimates.{Numbered};
+ghost use Rattle.timeline.specs.inside.Estimates.{Numbered};
 ghost use Rattle.majorities.specs.Majority.{majorityOf};
 ghost use Rattle.majorities.specs.Tally.{tallyOf, mostVoted};
 

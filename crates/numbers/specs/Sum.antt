@@ -7,13 +7,9 @@ use Rattle.laws.specs.Values.{minusZero}
 use Rattle.laws.specs.Turns.{turns}
 use Rattle.laws.specs.Front.{list}
 
--- value i is added
-abbrev pub sumTurn : List Float → ℕ → Float → Float
-sumTurn values i sum = add binary32 sum (getD values i nan)
-
 -- of the first n values
 unfoldable pub sumOf : ℕ → List Float → Float
-sumOf n values = turns (sumTurn values) n 0 minusZero
+sumOf n values = turns (λ (i : ℕ) (sum : Float). add binary32 sum (getD values i nan)) n 0 minusZero
 
 -- twelve sums, each with one value more
 unfoldable pub addedEach : List Float → List Float → List Float

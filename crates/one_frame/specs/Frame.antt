@@ -34,10 +34,6 @@ loud energy = lt (ofBits binary32 0x322b_cc77) energy
 abbrev pub middleOf : Settings → ℕ → ℕ
 middleOf s start = start + s .«frame_size» / 2
 
--- a sample's time in seconds
-unfoldable pub secondsAt : Settings → ℕ → Float
-secondsAt s sample = div binary64 (ofInt binary64 (pos sample)) (ofInt binary64 (pos (s .rate)))
-
 -- the row of a frame whose energy and two chromas are known
 abbrev pub rowFrom : Settings → ℕ → Float → List Float → List Float → Row
 rowFrom s start energy goertzel constant = record { centre = secondsAt s (middleOf s start); values = blendOf goertzel constant; energy = energy }

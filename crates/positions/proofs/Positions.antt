@@ -12,12 +12,13 @@ use Rattle.laws.proofs.Column.{column-at}
 use Rattle.calls.specs.Call.{Call}
 use Rattle.calls.specs.Rows.{Rows}
 use Rattle.one_frame.specs.declared.frame.Row.{Row}
-use Rattle.frames.specs.Run.{loudBefore, stopOf, holdingFrames}
+use Rattle.frames.specs.Run.{loudBefore, holdingFrames, stopAt}
 use Rattle.frames.specs.inside.Rows.{Run, ran, runOf}
 use Rattle.frames.specs.declared.run.Filled.{Filled}
 use Rattle.frames.specs.declared.run.Filled.the-variants.{All, NotFinite}
 use Rattle.frames.proofs.Left.{run-left}
-use Rattle.rooms.specs.Lent.{Lent, withFrames}
+use Rattle.rooms.specs.Lent.{Lent}
+use Rattle.rooms.specs.inside.With.{withFrames}
 use Rattle.answers.specs.Answer.{keyless}
 use Rattle.answers.specs.declared.answer.AnalyseResult.{AnalyseResult}
 use Rattle.loud_frames.specs.Loud.{AnalyseOutcome, analyseOutcome, loudAnalysed}
@@ -69,7 +70,7 @@ module _ (c : Call) (positions : ℕ) (l : Lent) {filled : Filled} {now : Rows} 
       }
 
   abbrev stop : ℕ
-  stop = stopOf c positions
+  stop = stopAt c positions
 
   abbrev found : List Row
   found = loudBefore c stop

@@ -4,15 +4,15 @@ use mathlib.Core.Bool.{cond}
 use lib.Dec.{ltb}
 use lib.ListN.{length}
 use Rattle.calls.specs.Call.{Call}
-use Rattle.frames.specs.Run.{loudBefore, stopOf, holdingFrames}
-use Rattle.rooms.specs.Lent.{Lent, withFrames}
+use Rattle.frames.specs.Run.{loudBefore, holdingFrames, stopAt}
+use Rattle.rooms.specs.Lent.{Lent, lent}
 use Rattle.answers.specs.Answer.{keyless}
 use Rattle.loud_frames.specs.Loud.{AnalyseOutcome, analyseOutcome, loudAnalysed}
 
 -- the loud frames of so many positions, in front of what stood in their rows, and what follows from them; number 9 where a row that is not finite stops the run
 unfoldable pub positionsAnalysed : Call → ℕ → Lent → AnalyseOutcome
 positionsAnalysed c positions l =
-    let k = stopOf c positions in
+    let k = stopAt c positions in
     let found = loudBefore c k in
-    let held = withFrames (holdingFrames found (l .frames)) l in
+    let held = lent (holdingFrames found (l .frames)) (l .work) (l .estimates) (l .segments) in
     cond (ltb k positions) (analyseOutcome (keyless 9 k (length found) 0) held) (loudAnalysed (c .settings) (length (c .samples)) found held)

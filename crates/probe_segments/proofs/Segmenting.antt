@@ -11,8 +11,10 @@ use lib.Ieee.{Float}
 use Rattle.laws.proofs.Every.{each}
 use Rattle.laws.proofs.Table.{each-of}
 use Rattle.calls.specs.declared.Settings.{Settings}
-use Rattle.timeline.specs.Estimates.{EstimateRows, estimatesIn, estimateRoom, Numbered, Found}
-use Rattle.timeline.specs.Segments.{SegmentRows, segmentsIn, segmentRoom, Room, Filled, filled}
+use Rattle.timeline.specs.Estimates.{EstimateRows, estimateRoom}
+use Rattle.timeline.specs.inside.Estimates.{estimatesIn, Numbered, Found}
+use Rattle.timeline.specs.Segments.{SegmentRows, segmentsIn, segmentRoom}
+use Rattle.timeline.specs.inside.Segments.{Room, FilledRows, filledRows}
 use Rattle.timeline.proofs.Rooms.{room-within, estimates-within}
 use Rattle.windows.specs.Span.{spanOf, rowsAsked, windowsOf}
 use Rattle.windows.specs.declared.span.Span.{Span}
@@ -39,13 +41,13 @@ module _ (least : Float) (rows : SegmentRows) {count : ℕ} {flag : Bool} (all :
   known : {b : Bool} → allNumbers (rows .keys) count ≡ b → allNumbers (rows .keys) (segmentRoom rows) ≡ b
   known e = ap (allNumbers (rows .keys)) (sym all) ∙ e
 
-  pub not-shortened : not flag ≡ true → filled 0 rows ≡ probedShorten least rows
+  pub not-shortened : not flag ≡ true → filledRows 0 rows ≡ probedShorten least rows
   not-shortened t = rw (known (failed told t))
 
   pub shorten-needs : not flag ≡ false → Room rows count × Numbered (rows .keys) count
   shorten-needs t = (room-within rows count (omega (arith, all)), numbered (rows .keys) count (passed told t))
 
-  pub shortened : {out : Filled} → not flag ≡ false → out ≡ settled least (segmentsIn rows count) rows → out ≡ probedShorten least rows
+  pub shortened : {out : FilledRows} → not flag ≡ false → out ≡ settled least (segmentsIn rows count) rows → out ≡ probedShorten least rows
   shortened t e = e ∙ ap (λ (n : ℕ). settled least (segmentsIn rows n) rows) all ∙ rw (known (passed told t))
 
 module _ (t : Track) (e : EstimateRows) (rows : SegmentRows) {room : ℕ} {fit : Bool} (all : room ≡ segmentRoom rows) (told : fit ≡ cutFits (length (e .centres)) (length (e .keys)) (length (e .confidences)) room) where
@@ -55,11 +57,11 @@ module _ (t : Track) (e : EstimateRows) (rows : SegmentRows) {room : ℕ} {fit :
   fitting : {b : Bool} → tests room ≡ b → tests (segmentRoom rows) ≡ b
   fitting p = ap tests (sym all) ∙ p
 
-  pub not-fit : not fit ≡ true → filled 0 rows ≡ probedCut t e rows
+  pub not-fit : not fit ≡ true → filledRows 0 rows ≡ probedCut t e rows
   not-fit f = rw (fitting (failed told f))
 
   module _ {flag : Bool} (good : not fit ≡ false) (numbers : flag ≡ allNumbers (e .keys) (length (e .keys))) where
-    pub not-numbered : not flag ≡ true → filled 0 rows ≡ probedCut t e rows
+    pub not-numbered : not flag ≡ true → filledRows 0 rows ≡ probedCut t e rows
     not-numbered f = rw (fitting (passed told good), failed numbers f)
 
     pub cut-needs : not flag ≡ false → Found e (length (e .keys)) × Room rows (length (e .keys)) × Room rows 1
@@ -76,7 +78,7 @@ module _ (t : Track) (e : EstimateRows) (rows : SegmentRows) {room : ℕ} {fit :
           room-within rows 1 (omega (arith, one, all)),
         )
 
-    pub cut-so : {out : Filled} {track : Track} → not flag ≡ false → track ≡ t → out ≡ filledOf track (estimatesIn e (length (e .keys))) rows → out ≡ probedCut t e rows
+    pub cut-so : {out : FilledRows} {track : Track} → not flag ≡ false → track ≡ t → out ≡ filledOf track (estimatesIn e (length (e .keys))) rows → out ≡ probedCut t e rows
     cut-so f same out = out ∙ ap (λ (x : Track). filledOf x (estimatesIn e (length (e .keys))) rows) same ∙ rw (fitting (passed told good), passed numbers f)
 
 module _ (s : Settings) (samples : ℕ) (t : Track) (centres : List Float) (values : List (List Float)) (e : EstimateRows) (rows : SegmentRows) {span : Span} {asked estimates room : ℕ} {flag : Bool} (spans : span ≡ spanOf s samples) (asks : asked ≡ rowsAsked span) (lent : estimates ≡ estimateRoom e) (left : room ≡ segmentRoom rows) (told : flag ≡ fitsIn asked estimates room) where

@@ -9,8 +9,10 @@ use Rattle.laws.specs.Every.{every}
 use Rattle.laws.specs.Table.{allOf}
 use Rattle.keys.specs.Numbers.{keyNumber, keyAt}
 use Rattle.calls.specs.declared.Settings.{Settings}
-use Rattle.timeline.specs.Estimates.{EstimateRows, estimatesIn, estimateRoom}
-use Rattle.timeline.specs.Segments.{SegmentRows, segmentsIn, segmentRoom, Filled, filled}
+use Rattle.timeline.specs.Estimates.{EstimateRows, estimateRoom}
+use Rattle.timeline.specs.inside.Estimates.{estimatesIn}
+use Rattle.timeline.specs.Segments.{SegmentRows, segmentsIn, segmentRoom}
+use Rattle.timeline.specs.inside.Segments.{FilledRows, filledRows}
 use Rattle.windows.specs.Span.{spanOf, rowsAsked}
 use Rattle.gathering.specs.Gather.{Heard, heard}
 use Rattle.majorities.specs.Majority.{majorityOf}
@@ -39,8 +41,8 @@ abbrev pub probedMajority : List ℕ → ℕ
 probedMajority numbers = cond (allNumbers numbers (length numbers)) (majorityOf numbers) 0
 
 -- all rows shortened; nothing where a key is above 23
-abbrev pub probedShorten : Float → SegmentRows → Filled
-probedShorten least rows = let count = segmentRoom rows in cond (allNumbers (rows .keys) count) (settled least (segmentsIn rows count) rows) (filled 0 rows)
+abbrev pub probedShorten : Float → SegmentRows → FilledRows
+probedShorten least rows = let count = segmentRoom rows in cond (allNumbers (rows .keys) count) (settled least (segmentsIn rows count) rows) (filledRows 0 rows)
 
 -- the reported key of all rows
 abbrev pub probedReported : ℕ → SegmentRows → ℕ
@@ -63,10 +65,10 @@ abbrev pub cutFits : ℕ → ℕ → ℕ → ℕ → Bool
 cutFits middles numbers certainties room = allOf (eqb middles numbers ∷ eqb certainties numbers ∷ leb numbers room ∷ leb 1 room ∷ ltb numbers 4_294_967_296 ∷ [])
 
 -- the segments of all estimates; nothing where they do not fit or a key is above 23
-abbrev pub probedCut : Track → EstimateRows → SegmentRows → Filled
+abbrev pub probedCut : Track → EstimateRows → SegmentRows → FilledRows
 probedCut t e rows =
     let found = length (e .keys) in
-    cond (cutFits (length (e .centres)) found (length (e .confidences)) (segmentRoom rows)) (cond (allNumbers (e .keys) found) (filledOf t (estimatesIn e found) rows) (filled 0 rows)) (filled 0 rows)
+    cond (cutFits (length (e .centres)) found (length (e .confidences)) (segmentRoom rows)) (cond (allNumbers (e .keys) found) (filledOf t (estimatesIn e found) rows) (filledRows 0 rows)) (filledRows 0 rows)
 
 -- the frames that both lists have
 abbrev pub heardIn : List Float → List (List Float) → Heard

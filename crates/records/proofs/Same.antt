@@ -5,7 +5,8 @@ use Prim.Native.Nat.{ℕ, _-_, _≤_}
 use lib.ListN.{length, take, drop, replicate}
 use lib.Seq.{length-take-le, take-append-seam}
 use lib.Ieee.{Float}
-use Rattle.timeline.specs.Segments.{emptied, holdingSegments, filled}
+use Rattle.timeline.specs.Segments.{emptied, holdingSegments}
+use Rattle.timeline.specs.inside.Segments.{filledRows}
 use Rattle.timeline.specs.Tiling.{Tiles, NoneShort}
 use Rattle.timeline.specs.declared.segment.Segment.{Segment}
 use Rattle.shortening.specs.Shorten.{shortenedOf, leftIn, settled}
@@ -36,7 +37,7 @@ pub records-are-rows : RecordsAreRows
 unfolding shortenedIn
 records-are-rows least count records rows h same =
     ap (λ (l : List Segment). settled least l rows) same
-    ∙ ap (λ (l : List Segment). filled (length (shortenedOf least (take count records))) (holdingSegments l rows)) (sym (held-is least count records h))
+    ∙ ap (λ (l : List Segment). filledRows (length (shortenedOf least (take count records))) (holdingSegments l rows)) (sym (held-is least count records h))
 
 pub no-record-short : NoRecordShort
 no-record-short least count records = subst (NoneShort least) (sym (left-is least count records)) (none-left-short least (take count records))

@@ -4,7 +4,8 @@ use Prim.Native.Nat.{ℕ, _≤_}
 use mathlib.Core.List.{List}
 use lib.ListN.{length, take}
 use lib.Ieee.{Float}
-use Rattle.timeline.specs.Segments.{SegmentRows, segmentsIn, holdingSegments, filled}
+use Rattle.timeline.specs.Segments.{SegmentRows, segmentsIn, holdingSegments}
+use Rattle.timeline.specs.inside.Segments.{filledRows}
 use Rattle.timeline.specs.Tiling.{Tiles, NoneShort}
 use Rattle.timeline.specs.declared.segment.Segment.{Segment}
 use Rattle.shortening.specs.Shorten.{settled}
@@ -18,7 +19,7 @@ leftOf l = take (l .count) (l .records)
 abbrev pub RecordsAreRows : Type 0
 RecordsAreRows =
     (least : Float) (count : ℕ) (records : List Segment) (rows : SegmentRows) → count ≤ length records → segmentsIn rows count ≡ take count records
-    → settled least (segmentsIn rows count) rows ≡ filled (shortenedIn least count records .count) (holdingSegments (take count (shortenedIn least count records .records)) rows)
+    → settled least (segmentsIn rows count) rows ≡ filledRows (shortenedIn least count records .count) (holdingSegments (take count (shortenedIn least count records .records)) rows)
 
 -- none of several is short, whatever the minimum and the records
 abbrev pub NoRecordShort : Type 0

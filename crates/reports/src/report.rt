@@ -1,7 +1,8 @@
 // From the verdict on a track to the answer: segments, the reported key and the alternate key.
 ghost use mathlib.Core.Path.{_≡_};
 ghost use Rattle.timeline.specs.Estimates.{lentEstimates};
-ghost use Rattle.timeline.specs.Segments.{lentSegments, segmentsIn, Room};
+ghost use Rattle.timeline.specs.Segments.{lentSegments, segmentsIn};
+ghost use Rattle.timeline.specs.inside.Segments.{Room};
 ghost use Rattle.windows.specs.Span.{spanOf};
 ghost use Rattle.gathering.specs.Gather.{heard};
 ghost use Rattle.segments.specs.inside.Located.{Prepared};

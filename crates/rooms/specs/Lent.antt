@@ -1,11 +1,8 @@
 -- All that an analysis is lent to write: frame rows, work numbers, estimates, segments. Definitions only.
 use Prim.Native.Nat.{ℕ}
 use mathlib.Core.List.{List}
-use lib.ListN.{replicate}
 use denote.Ref.{RefT, now}
 use lib.Ieee.{Float}
-use Rattle.laws.specs.Front.{front}
-use Rattle.laws.specs.Values.{plusZero}
 use Rattle.calls.specs.Rows.{Rows, lentRows}
 use Rattle.timeline.specs.Estimates.{EstimateRows, lentEstimates}
 use Rattle.timeline.specs.Segments.{SegmentRows, lentSegments}
@@ -25,15 +22,3 @@ lent frames work estimates segments = record { frames = frames; work = work; est
 abbrev pub lentAll : RefT (List Float) → RefT (List (List Float)) → RefT (List Float) → RefT (List Float) → RefT (List Float) → RefT (List ℕ) → RefT (List Float) → RefT (List Float) → RefT (List Float) → RefT (List ℕ) → RefT (List Float) → Lent
 lentAll centres values energies work middles numbers certainties starts ends keys confidences =
     lent (lentRows centres values energies) (now work) (lentEstimates middles numbers certainties) (lentSegments starts ends keys confidences)
-
--- with other frame rows
-abbrev pub withFrames : Rows → Lent → Lent
-withFrames frames l = lent frames (l .work) (l .estimates) (l .segments)
-
--- with the first work numbers zeroed
-abbrev pub workZeroed : ℕ → Lent → Lent
-workZeroed count l = lent (l .frames) (front (replicate count plusZero) (l .work)) (l .estimates) (l .segments)
-
--- with other estimates and segments
-abbrev pub withSegments : EstimateRows → SegmentRows → Lent → Lent
-withSegments estimates segments l = lent (l .frames) (l .work) estimates segments

@@ -1,3 +1,4 @@
 pub mod Lent
 pub mod Room
 pub mod Budget
+pub mod inside

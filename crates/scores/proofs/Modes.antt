@@ -15,7 +15,7 @@ use Rattle.correlations.specs.Deviations.{deviationsOf, deviationEnergy, wheelO
 use Rattle.correlations.specs.Lanes.{turnedOf}
 use Rattle.scores.specs.Profiles.{profileAt}
 use Rattle.numbers.specs.Sum.{addedEach}
-use Rattle.scores.specs.Modes.{modeTurn, noSums, modeSums}
+use Rattle.scores.specs.Modes.{modeTurn, modeSums, noModeSums}
 use Rattle.scores.specs.Scores.{scoreTurn, scoreOf, scoreAt, scoresOf}
 use Rattle.correlations.proofs.Turned.{turned-is}
 
@@ -28,7 +28,7 @@ mode-sum chroma mode root h =
     λ (p : ℕ). ap (λ (l : List Float). getD l root nan) (turned-is chroma (profileAt (2 * p + mode))) ∙ getD-list (correlationOf chroma (profileAt (2 * p + mode))) 12 root nan h in
     turns-part (λ (sums : List Float). getD sums root nan) (modeTurn away (deviationEnergy away) mode) (scoreTurn chroma mode root) 4 0
     (λ (p : ℕ) (sums : List Float) (b : p < 0 + 4).
-    getD-list (λ (i : ℕ). add binary32 (getD sums i nan) (getD (turnedOf away (deviationEnergy away) (wheelOf (profileAt (2 * p + mode)))) i nan)) 12 root nan h ∙ ap (add binary32 (getD sums root nan)) (more p)) noSums
+    getD-list (λ (i : ℕ). add binary32 (getD sums i nan) (getD (turnedOf away (deviationEnergy away) (wheelOf (profileAt (2 * p + mode)))) i nan)) 12 root nan h ∙ ap (add binary32 (getD sums root nan)) (more p)) noModeSums
     ∙ ap (turns (scoreTurn chroma mode root) 4 0) (getD-list (λ (i : ℕ). plusZero) 12 root nan h)
 
 -- a quarter of a sum

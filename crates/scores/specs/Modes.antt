@@ -14,9 +14,9 @@ unfoldable pub modeTurn : List Float → Float → ℕ → ℕ → List Float �
 modeTurn away chromaEnergy mode p sums = addedEach sums (turnedOf away chromaEnergy (wheelOf (profileAt (2 * p + mode))))
 
 -- twelve sums of nothing
-abbrev pub noSums : List Float
-noSums = twelve (alike plusZero) (alike plusZero) (alike plusZero)
+abbrev pub noModeSums : List Float
+noModeSums = twelve (alike plusZero) (alike plusZero) (alike plusZero)
 
 -- the correlations with the four profiles of a mode together, by root
 unfoldable pub modeSums : List Float → Float → ℕ → List Float
-modeSums away chromaEnergy mode = turns (modeTurn away chromaEnergy mode) 4 0 noSums
+modeSums away chromaEnergy mode = turns (modeTurn away chromaEnergy mode) 4 0 noModeSums

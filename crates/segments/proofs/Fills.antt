@@ -12,8 +12,10 @@ use Rattle.laws.specs.Values.{plusZero}
 use Rattle.laws.proofs.Front.{length-list}
 use Rattle.laws.proofs.Column.{column-fits}
 use Rattle.keys.specs.Numbers.{keyNumber}
-use Rattle.timeline.specs.Estimates.{EstimateRows, estimateIn, estimatesIn, Numbered}
-use Rattle.timeline.specs.Segments.{segment, SegmentRows, segmentsIn, putSegment, holdingSegments, Room, Filled, filled, standing}
+use Rattle.timeline.specs.Estimates.{EstimateRows}
+use Rattle.timeline.specs.inside.Estimates.{estimateIn, estimatesIn, Numbered}
+use Rattle.timeline.specs.Segments.{segment, SegmentRows, segmentsIn, holdingSegments}
+use Rattle.timeline.specs.inside.Segments.{putSegment, Room, FilledRows, filledRows, standing}
 use Rattle.timeline.specs.declared.segment.Segment.{Segment}
 use Rattle.timeline.proofs.Segments.{holds-start, holds-more, holds-all, segments-numbered, segments-read-back, held-again}
 use Rattle.groups.specs.Groups.{firstSegments, groupsOf}
@@ -24,20 +26,20 @@ use Rattle.segments.specs.declared.fill.Track.{Track}
 
 module _ (t : Track) (rows : EstimateRows) (count : ℕ) where
   -- with an estimate the groups are cut
-  pub groups-cut : {out : Filled} (before : SegmentRows) → 0 < count → out ≡ standing (groupsOf (t .threshold) (t .duration) (estimatesIn rows count)) before → out ≡ standing (cutOf t (estimatesIn rows count)) before
+  pub groups-cut : {out : FilledRows} (before : SegmentRows) → 0 < count → out ≡ standing (groupsOf (t .threshold) (t .duration) (estimatesIn rows count)) before → out ≡ standing (cutOf t (estimatesIn rows count)) before
   unfolding firstSegments
   groups-cut before h e =
       let some : eqb (length (estimatesIn rows count)) 0 ≡ false = ne-eqb (length (estimatesIn rows count)) 0 (λ z. omega (arith, z, length-list (estimateIn rows) count)) in
       e ∙ rw some
 
   -- without one the whole track is one segment
-  pub whole-cut : {after : SegmentRows} (before : SegmentRows) → count ≤ 0 → Room before 1 → after ≡ putSegment (segment plusZero (t .duration) (t .key) (t .confidence)) 0 before → filled 1 after ≡ standing (cutOf t (estimatesIn rows count)) before
+  pub whole-cut : {after : SegmentRows} (before : SegmentRows) → count ≤ 0 → Room before 1 → after ≡ putSegment (segment plusZero (t .duration) (t .key) (t .confidence)) 0 before → filledRows 1 after ≡ standing (cutOf t (estimatesIn rows count)) before
   unfolding firstSegments
   whole-cut {after} before h room e =
       let whole = segment plusZero (t .duration) (t .key) (t .confidence) in
       let none : eqb (length (estimatesIn rows count)) 0 ≡ true = eq-eqb (length (estimatesIn rows count)) 0 (omega (arith, length-list (estimateIn rows) count)) in
       let held = holds-all (whole ∷ []) before (putSegment whole 0 before) (holds-more [] whole before before 0 refl room (holds-start before)) in
-      ap (filled 1) (e ∙ held) ∙ rw none
+      ap (filledRows 1) (e ∙ held) ∙ rw none
 
 -- as many places as the segments take are there
 pub held-room : (segments : List Segment) (before : SegmentRows) → Room (holdingSegments segments before) (length segments)
@@ -49,22 +51,22 @@ held-room segments before =
       confidences = column-fits (λ (s : Segment). s .confidence) segments (before .confidences);
     }
 
-module _ {count : ℕ} {mid : SegmentRows} (segments : List Segment) (before : SegmentRows) (cut : filled count mid ≡ standing segments before) where
+module _ {count : ℕ} {mid : SegmentRows} (segments : List Segment) (before : SegmentRows) (cut : filledRows count mid ≡ standing segments before) where
   many : count ≡ length segments
-  many = ap (λ (f : Filled). f .count) cut
+  many = ap (λ (f : FilledRows). f .count) cut
 
   rows-are : mid ≡ holdingSegments segments before
-  rows-are = ap (λ (f : Filled). f .rows) cut
+  rows-are = ap (λ (f : FilledRows). f .rows) cut
 
   pub cut-room : Room mid count
-  cut-room = subst (λ (f : Filled). Room (f .rows) (f .count)) (sym cut) (held-room segments before)
+  cut-room = subst (λ (f : FilledRows). Room (f .rows) (f .count)) (sym cut) (held-room segments before)
 
   pub cut-numbered : Numbered (mid .keys) count
-  cut-numbered = subst (λ (f : Filled). Numbered (f .rows .keys) (f .count)) (sym cut) (segments-numbered segments before)
+  cut-numbered = subst (λ (f : FilledRows). Numbered (f .rows .keys) (f .count)) (sym cut) (segments-numbered segments before)
 
-  pub settled-same : {out : Filled} (least : Float) → out ≡ settled least (segmentsIn mid count) mid → out ≡ settled least segments before
+  pub settled-same : {out : FilledRows} (least : Float) → out ≡ settled least (segmentsIn mid count) mid → out ≡ settled least segments before
   settled-same least e =
       e
-      ∙ ap (λ (f : Filled). settled least (segmentsIn (f .rows) (f .count)) (f .rows)) cut
+      ∙ ap (λ (f : FilledRows). settled least (segmentsIn (f .rows) (f .count)) (f .rows)) cut
       ∙ ap (λ (l : List Segment). settled least l (holdingSegments segments before)) (segments-read-back segments before)
-      ∙ ap (filled (length (shortenedOf least segments))) (held-again segments before (leftIn least segments) (left-long least segments))
+      ∙ ap (filledRows (length (shortenedOf least segments))) (held-again segments before (leftIn least segments) (left-long least segments))

@@ -12,8 +12,10 @@ use Rattle.laws.proofs.First.{first-within}
 use Rattle.laws.proofs.Cases.{lt-or-ge}
 use Rattle.laws.proofs.Column.{column-fits}
 use Rattle.keys.specs.Numbers.{keyNumber}
-use Rattle.timeline.specs.Estimates.{EstimateRows, holdingEstimates, estimatesIn, Found}
-use Rattle.timeline.specs.Segments.{SegmentRows, Room, filled}
+use Rattle.timeline.specs.Estimates.{EstimateRows, holdingEstimates}
+use Rattle.timeline.specs.inside.Estimates.{estimatesIn, Found}
+use Rattle.timeline.specs.Segments.{SegmentRows}
+use Rattle.timeline.specs.inside.Segments.{Room, filledRows}
 use Rattle.timeline.specs.declared.estimate.Estimate.{Estimate}
 use Rattle.timeline.proofs.Estimates.{rows-numbered, rows-read-back}
 use Rattle.windows.specs.Span.{windowsOf}
@@ -43,9 +45,9 @@ passed (Stuck n) = false
 pub swept-is : (s : Span) (h : Heard) (before : EstimateRows) → let found = estimatesOf s h in sweptOf s h (windowsOf s) before ≡ swept (cond (halts s) (Stuck (length found)) (All (length found))) (holdingEstimates found before)
 unfolding sweptOf halts windowsPassed
 swept-is s h before = elim (lt-or-ge k windows) [
-    | inl stays ↦ let all : min (k + 1) windows ≡ k + 1 = omega (arith, stays) in rw (lt-ltb k windows stays, all)
-    | inr goes ↦ let all : min (k + 1) windows ≡ k = omega (arith, goes, first-within (stuckAt s) windows 0) in rw (le-ltb k windows goes, all)
-  ]
+  | inl stays ↦ let all : min (k + 1) windows ≡ k + 1 = omega (arith, stays) in rw (lt-ltb k windows stays, all)
+  | inr goes ↦ let all : min (k + 1) windows ≡ k = omega (arith, goes, first-within (stuckAt s) windows 0) in rw (le-ltb k windows goes, all)
+]
   where
     windows : ℕ
     windows = windowsOf s
@@ -131,7 +133,7 @@ module _ (s : Span) (h : Heard) (before : EstimateRows) {windows : ℕ} (all : w
       let told = says (sym (ap (λ (x : Estimated). swept x rows) a) ∙ run) in
       rw (told .halting, told .held) (ap (λ (k : ℕ). locatedIn (Halted k) (holdingEstimates found before) segments) (told .count))
 
-  pub told-all : (t : Track) (segments : SegmentRows) {n count : ℕ} {answer : Estimated} {rows : EstimateRows} {after : SegmentRows} → answer ≡ All n → swept answer rows ≡ sweptOf s h windows before → filled count after ≡ filledOf t (estimatesIn rows n) segments → locatedIn (Told n count) rows after ≡ locatedOf s t h before segments
+  pub told-all : (t : Track) (segments : SegmentRows) {n count : ℕ} {answer : Estimated} {rows : EstimateRows} {after : SegmentRows} → answer ≡ All n → swept answer rows ≡ sweptOf s h windows before → filledRows count after ≡ filledOf t (estimatesIn rows n) segments → locatedIn (Told n count) rows after ≡ locatedOf s t h before segments
   unfolding locatedOf
   told-all t segments {n} {rows = rows} a run fill =
       let told = says (sym (ap (λ (x : Estimated). swept x rows) a) ∙ run) in

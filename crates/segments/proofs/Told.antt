@@ -8,7 +8,8 @@ use lib.ListN.{length, length-append}
 use lib.Ieee.{Float}
 use Rattle.timeline.specs.Estimates.{EstimateRows, holdingEstimates}
 use Rattle.timeline.specs.declared.estimate.Estimate.{Estimate}
-use Rattle.timeline.specs.Segments.{SegmentRows, Room}
+use Rattle.timeline.specs.Segments.{SegmentRows}
+use Rattle.timeline.specs.inside.Segments.{Room}
 use Rattle.timeline.specs.declared.segment.Segment.{Segment}
 use Rattle.gathering.specs.Gather.{Heard}
 use Rattle.windows.specs.Run.{halts, estimatesOf}

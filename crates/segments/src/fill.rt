@@ -2,8 +2,10 @@
 ghost use mathlib.Core.Path.{_≡_};
 ghost use Prim.Native.Nat.{_<_, _≤_};
 ghost use lib.ListN.{length};
-ghost use Rattle.timeline.specs.Estimates.{Found, lentEstimates, estimatesIn};
-ghost use Rattle.timeline.specs.Segments.{Room, lentSegments, filled, standing};
+ghost use Rattle.timeline.specs.Estimates.{lentEstimates};
+ghost use Rattle.timeline.specs.inside.Estimates.{Found, estimatesIn};
+ghost use Rattle.timeline.specs.Segments.{lentSegments};
+ghost use Rattle.timeline.specs.inside.Segments.{Room, filledRows, standing};
 ghost use Rattle.segments.specs.inside.Fill.{filledOf, cutOf};
 use groups::cut::cut_groups;
 use keys::Key;
@@ -33,7 +35,7 @@ fn cut_track(
     confidences: &mut [f32],
 ) -> usize
     requires { ⌜ Found (lentEstimates middles numbers certainties) found × Room (lentSegments starts ends keys confidences) found × Room (lentSegments starts ends keys confidences) 1 ⌝ }
-    ensures { λ r. ⌜ filled r (lentSegments (starts .exit) (ends .exit) (keys .exit) (confidences .exit)) ≡ standing (cutOf track (estimatesIn (lentEstimates (middles .entry) (numbers .entry) (certainties .entry)) found)) (lentSegments (starts .entry) (ends .entry) (keys .entry) (confidences .entry)) ⌝ }
+    ensures { λ r. ⌜ filledRows r (lentSegments (starts .exit) (ends .exit) (keys .exit) (confidences .exit)) ≡ standing (cutOf track (estimatesIn (lentEstimates (middles .entry) (numbers .entry) (certainties .entry)) found)) (lentSegments (starts .entry) (ends .entry) (keys .entry) (confidences .entry)) ⌝ }
 {
     if found > 0 {
         return cut_groups(
@@ -73,7 +75,7 @@ pub fn fill_segments(
     confidences: &mut [f32],
 ) -> usize
     requires { ⌜ Found (lentEstimates middles numbers certainties) found × Room (lentSegments starts ends keys confidences) found × Room (lentSegments starts ends keys confidences) 1 ⌝ }
-    ensures { λ r. ⌜ filled r (lentSegments (starts .exit) (ends .exit) (keys .exit) (confidences .exit)) ≡ filledOf track (estimatesIn (lentEstimates (middles .entry) (numbers .entry) (certainties .entry)) found) (lentSegments (starts .entry) (ends .entry) (keys .entry) (confidences .entry)) ⌝ }
+    ensures { λ r. ⌜ filledRows r (lentSegments (starts .exit) (ends .exit) (keys .exit) (confidences .exit)) ≡ filledOf track (estimatesIn (lentEstimates (middles .entry) (numbers .entry) (certainties .entry)) found) (lentSegments (starts .entry) (ends .entry) (keys .entry) (confidences .entry)) ⌝ }
 {
     let count = cut_track(
         track,

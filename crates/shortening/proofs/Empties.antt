@@ -6,7 +6,8 @@ use native.Mathlib.Omega.{arith}
 use lib.ListN.{length, set, take, drop, replicate, length-append, length-replicate, length-set, take-append-drop}
 use lib.Seq.{length-take-le, drop-cons, set-at}
 use Rattle.keys.specs.Numbers.{keyNumber}
-use Rattle.timeline.specs.Segments.{emptied, SegmentRows, putSegment, Room}
+use Rattle.timeline.specs.Segments.{emptied, SegmentRows}
+use Rattle.timeline.specs.inside.Segments.{putSegment, Room}
 use Rattle.timeline.specs.declared.segment.Segment.{Segment}
 use Rattle.timeline.proofs.Segments.{same-rows}
 use Rattle.shortening.specs.Gap.{emptiedColumn, emptiedRows}

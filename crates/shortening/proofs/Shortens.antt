@@ -17,8 +17,9 @@ use Rattle.laws.proofs.Cases.{by-test}
 use Rattle.laws.proofs.Front.{length-list}
 use Rattle.keys.specs.Numbers.{keyNumber, keyAt}
 use Rattle.keys.proofs.Placed.{numbers-are-keys}
-use Rattle.timeline.specs.Estimates.{Numbered}
-use Rattle.timeline.specs.Segments.{emptied, seconds, short, joined, segment, segmentAt, SegmentRows, segmentIn, segmentsIn, putSegment, holdingSegments, Room, Filled, filled}
+use Rattle.timeline.specs.inside.Estimates.{Numbered}
+use Rattle.timeline.specs.Segments.{emptied, seconds, short, joined, segment, segmentAt, SegmentRows, segmentIn, segmentsIn, holdingSegments}
+use Rattle.timeline.specs.inside.Segments.{putSegment, Room, FilledRows, filledRows}
 use Rattle.timeline.specs.declared.segment.Segment.{Segment}
 use Rattle.timeline.proofs.Segments.{segment-there, same-rows}
 use Rattle.shortening.specs.Shorten.{firstShort, keeper, joinAt, joinShort, unsettled, shorten, shortenedOf, leftIn, settled}
@@ -78,30 +79,30 @@ module _ (least : Float) (done next count : ℕ) (rows : SegmentRows) {current :
 
 -- ---- the next one is read, a law to each answer
 module _ (least : Float) (done next : ℕ) (rows : SegmentRows) {current following : Segment} {flag : Bool} {after : SegmentRows} (e : current ≡ segmentIn rows (done - 1)) (n : following ≡ segmentIn rows next) (f : flag ≡ short least current) where
-  pub takes-joined : {x : Segment} → flag ≡ true → x ≡ joined current following → after ≡ putSegment x (done - 1) rows → filled done after ≡ takenIn least done next rows
+  pub takes-joined : {x : Segment} → flag ≡ true → x ≡ joined current following → after ≡ putSegment x (done - 1) rows → filledRows done after ≡ takenIn least done next rows
   unfolding takenIn
   takes-joined t x put =
       let s : short least (segmentIn rows (done - 1)) ≡ true = ap (short least) (sym e) ∙ sym f ∙ t in
       rw (s, put, x, e, n)
 
-  pub takes-next : flag ≡ false → after ≡ putSegment following done rows → filled (done + 1) after ≡ takenIn least done next rows
+  pub takes-next : flag ≡ false → after ≡ putSegment following done rows → filledRows (done + 1) after ≡ takenIn least done next rows
   unfolding takenIn
   takes-next t put =
       let s : short least (segmentIn rows (done - 1)) ≡ false = ap (short least) (sym e) ∙ sym f ∙ t in
       rw (s, put, n)
 
 -- one more at most
-pub taken-few : (least : Float) (done next : ℕ) (rows : SegmentRows) {found : ℕ} {after : SegmentRows} → filled found after ≡ takenIn least done next rows → found ≤ done + 1
+pub taken-few : (least : Float) (done next : ℕ) (rows : SegmentRows) {found : ℕ} {after : SegmentRows} → filledRows found after ≡ takenIn least done next rows → found ≤ done + 1
 unfolding takenIn
 taken-few least done next rows e =
-    let count = ap (λ (f : Filled). f .count) e in
-    let few : takenIn least done next rows .count ≤ done + 1 = by-test (λ (f : Filled). f .count ≤ done + 1) (short least (segmentIn rows (done - 1))) (λ _. omega arith) (λ _. omega arith) in
+    let count = ap (λ (f : FilledRows). f .count) e in
+    let few : takenIn least done next rows .count ≤ done + 1 = by-test (λ (f : FilledRows). f .count ≤ done + 1) (short least (segmentIn rows (done - 1))) (λ _. omega arith) (λ _. omega arith) in
     omega (arith, count, few)
 
 -- no rows, no segments
-pub settled-none : (least : Float) {count : ℕ} (before : SegmentRows) → count ≡ 0 → filled 0 before ≡ settled least (segmentsIn before count) before
+pub settled-none : (least : Float) {count : ℕ} (before : SegmentRows) → count ≡ 0 → filledRows 0 before ≡ settled least (segmentsIn before count) before
 unfolding list shorten shortenedOf leftIn
-settled-none least before e = subst (λ (n : ℕ). filled 0 before ≡ settled least (segmentsIn before n) before) (sym e) refl
+settled-none least before e = subst (λ (n : ℕ). filledRows 0 before ≡ settled least (segmentsIn before n) before) (sym e) refl
 
 -- The loop has come to a gap: `done` segments are kept before it, and those from `next` on are unread.
 pub record Gap (least : Float) (count : ℕ) (before now : SegmentRows) (done next : ℕ) : Type 0 where
@@ -350,14 +351,14 @@ module _ {least : Float} {count : ℕ} {before now : SegmentRows} {done next : �
       let more = gap-put p next x (omega arith) (omega arith) (omega arith) (g .upto) (λ i less. g .fine i (omega (arith, less))) same in
       subst (λ (n : ℕ). Gap least count before after n next) one (subst (λ (r : SegmentRows). Gap least count before r (p + 1) next) (sym put) more)
 
-  pub gap-more : {flag : Bool} {found : ℕ} {after : SegmentRows} → flag ≡ joinsBack least done next count now → flag ≡ false → (next ≡ count → ⊥) → filled found after ≡ takenIn least done next now → Gap least count before after found (next + 1)
+  pub gap-more : {flag : Bool} {found : ℕ} {after : SegmentRows} → flag ≡ joinsBack least done next count now → flag ≡ false → (next ≡ count → ⊥) → filledRows found after ≡ takenIn least done next now → Gap least count before after found (next + 1)
   unfolding joinsBack takenIn
   gap-more {found = found} {after = after} f t inside e =
       let upto = g .upto in
       let more : next < count = omega (arith, inside) in
       elim (not-both (short least (segmentIn now last)) (prefersBack done next count now) (sym f ∙ t)) [
-        | inl long ↦ subst (λ (f : Filled). Gap least count before (f .rows) (f .count) (next + 1)) (sym (rw long at e)) (reads long more)
-        | inr joins ↦ subst (λ (f : Filled). Gap least count before (f .rows) (f .count) (next + 1)) (sym (rw (joins .0) at e)) (goes-on (joins .0) (joins .1) more)
+        | inl long ↦ subst (λ (f : FilledRows). Gap least count before (f .rows) (f .count) (next + 1)) (sym (rw long at e)) (reads long more)
+        | inr joins ↦ subst (λ (f : FilledRows). Gap least count before (f .rows) (f .count) (next + 1)) (sym (rw (joins .0) at e)) (goes-on (joins .0) (joins .1) more)
       ]
     where
       reads : short least (segmentIn now last) ≡ false → next < count → Gap least count before (putSegment (segmentIn now next) done now) (done + 1) (next + 1)
@@ -387,7 +388,7 @@ module _ {least : Float} {count : ℕ} {before now : SegmentRows} {done next : �
         | inr joins ↦ let one = has-none (joins .1) end in few-settled least (g .kept) (omega (arith, one, g .many, g .some))
       ]
 
-  pub gap-end : {flag : Bool} {after : SegmentRows} → flag ≡ joinsBack least done next count now → flag ≡ false → next ≡ count → after ≡ emptiedRows done count now → filled done after ≡ settled least segments before
+  pub gap-end : {flag : Bool} {after : SegmentRows} → flag ≡ joinsBack least done next count now → flag ≡ false → next ≡ count → after ≡ emptiedRows done count now → filledRows done after ≡ settled least segments before
   unfolding leftIn shortenedOf
   gap-end f t end put =
       let kept = g .kept in
@@ -395,7 +396,7 @@ module _ {least : Float} {count : ℕ} {before now : SegmentRows} {done next : �
       let full : next ≡ length segments = end ∙ sym segments-long in
       let same : kept ≡ shortenedOf least segments = sym (stays (length kept) least kept (nothing-left (sym f ∙ t) end)) ∙ ap (shortenedOf least) (sym (all-read end)) ∙ g .ahead in
       let rows : emptiedRows (length kept) next now ≡ holdingSegments (kept ++ replicate (next - length kept) emptied) before = same-rows (apart-end _ kept next (g .starts) ready) (apart-end _ kept next (g .ends) ready) (apart-end _ kept next (g .keys) ready) (apart-end _ kept next (g .confidences) ready) in
-      ap (filled done) (put ∙ ap (λ (n : ℕ). emptiedRows n count now) (sym (g .many)) ∙ ap (λ (n : ℕ). emptiedRows (length kept) n now) (sym end) ∙ rows)
-      ∙ ap (λ (n : ℕ). filled n (holdingSegments (kept ++ replicate (next - length kept) emptied) before)) (sym (g .many))
-      ∙ ap (λ (n : ℕ). filled (length kept) (holdingSegments (kept ++ replicate (n - length kept) emptied) before)) full
-      ∙ ap (λ (l : List Segment). filled (length l) (holdingSegments (l ++ replicate (length segments - length l) emptied) before)) same
+      ap (filledRows done) (put ∙ ap (λ (n : ℕ). emptiedRows n count now) (sym (g .many)) ∙ ap (λ (n : ℕ). emptiedRows (length kept) n now) (sym end) ∙ rows)
+      ∙ ap (λ (n : ℕ). filledRows n (holdingSegments (kept ++ replicate (next - length kept) emptied) before)) (sym (g .many))
+      ∙ ap (λ (n : ℕ). filledRows (length kept) (holdingSegments (kept ++ replicate (n - length kept) emptied) before)) full
+      ∙ ap (λ (l : List Segment). filledRows (length l) (holdingSegments (l ++ replicate (length segments - length l) emptied) before)) same

@@ -6,7 +6,8 @@ use lib.ListN.{take, drop, replicate}
 use lib.Dec.{eqb}
 use lib.Ieee.{Float, le}
 use Rattle.keys.specs.Numbers.{keyNumber}
-use Rattle.timeline.specs.Segments.{emptied, seconds, short, joined, SegmentRows, segmentRows, putSegment, segmentIn, Filled, filled}
+use Rattle.timeline.specs.Segments.{emptied, seconds, short, joined, SegmentRows, segmentRows, segmentIn}
+use Rattle.timeline.specs.inside.Segments.{putSegment, FilledRows, filledRows}
 
 -- the last of those looked at joins the one before it rather than the next one
 unfoldable pub prefersBack : ℕ → ℕ → ℕ → SegmentRows → Bool
@@ -22,11 +23,11 @@ abbrev pub joinedRows : ℕ → SegmentRows → SegmentRows
 joinedRows p r = putSegment (joined (segmentIn r p) (segmentIn r (p + 1))) p r
 
 -- the next one is read: it joins the last where that is short, and else stands behind it
-unfoldable pub takenIn : Float → ℕ → ℕ → SegmentRows → Filled
+unfoldable pub takenIn : Float → ℕ → ℕ → SegmentRows → FilledRows
 takenIn least done next r =
     cond (short least (segmentIn r (done - 1)))
-    (filled done (putSegment (joined (segmentIn r (done - 1)) (segmentIn r next)) (done - 1) r))
-    (filled (done + 1) (putSegment (segmentIn r next) done r))
+    (filledRows done (putSegment (joined (segmentIn r (done - 1)) (segmentIn r next)) (done - 1) r))
+    (filledRows (done + 1) (putSegment (segmentIn r next) done r))
 
 -- a column of which the entries from `from` up to `count` are x
 abbrev pub emptiedColumn : {A : Type 0} → ℕ → ℕ → A → List A → List A

@@ -3,8 +3,9 @@
 // it are unread.
 ghost use mathlib.Core.Path.{_≡_};
 ghost use Prim.Native.Nat.{_+_, _<_, _≤_};
-ghost use Rattle.timeline.specs.Estimates.{Numbered};
-ghost use Rattle.timeline.specs.Segments.{Room, lentSegments, segmentsIn, filled};
+ghost use Rattle.timeline.specs.inside.Estimates.{Numbered};
+ghost use Rattle.timeline.specs.Segments.{lentSegments, segmentsIn};
+ghost use Rattle.timeline.specs.inside.Segments.{Room, filledRows};
 ghost use Rattle.shortening.specs.Shorten.{settled};
 ghost use Rattle.shortening.specs.Gap.{joinsBack, joinedRows, takenIn, emptiedRows};
 use timeline::segment::emptied_segment;
@@ -80,7 +81,7 @@ fn take_in(
     confidences: &mut [f32],
 ) -> usize
     requires { ⌜ (0 < done) × (done ≤ next) × Room (lentSegments starts ends keys confidences) (next + 1) ⌝ }
-    ensures { λ r. ⌜ filled r (lentSegments (starts .exit) (ends .exit) (keys .exit) (confidences .exit)) ≡ takenIn least done next (lentSegments (starts .entry) (ends .entry) (keys .entry) (confidences .entry)) ⌝ }
+    ensures { λ r. ⌜ filledRows r (lentSegments (starts .exit) (ends .exit) (keys .exit) (confidences .exit)) ≡ takenIn least done next (lentSegments (starts .entry) (ends .entry) (keys .entry) (confidences .entry)) ⌝ }
 {
     let last = done - 1;
     let current = segment_at(last, starts, ends, keys, confidences);
@@ -123,7 +124,7 @@ pub fn shorten_segments(
     confidences: &mut [f32],
 ) -> usize
     requires { ⌜ Room (lentSegments starts ends keys confidences) count × Numbered (now keys) count ⌝ }
-    ensures { λ r. ⌜ filled r (lentSegments (starts .exit) (ends .exit) (keys .exit) (confidences .exit)) ≡ settled least (segmentsIn (lentSegments (starts .entry) (ends .entry) (keys .entry) (confidences .entry)) count) (lentSegments (starts .entry) (ends .entry) (keys .entry) (confidences .entry)) ⌝ }
+    ensures { λ r. ⌜ filledRows r (lentSegments (starts .exit) (ends .exit) (keys .exit) (confidences .exit)) ≡ settled least (segmentsIn (lentSegments (starts .entry) (ends .entry) (keys .entry) (confidences .entry)) count) (lentSegments (starts .entry) (ends .entry) (keys .entry) (confidences .entry)) ⌝ }
 {
     if count == 0 {
         return 0;

@@ -2,7 +2,8 @@
 ghost use mathlib.Core.Path.{_≡_};
 ghost use Prim.Native.Nat.{_<_};
 ghost use lib.ListN.{length};
-ghost use Rattle.timeline.specs.Estimates.{lentEstimates, estimateIn};
+ghost use Rattle.timeline.specs.Estimates.{lentEstimates};
+ghost use Rattle.timeline.specs.inside.Estimates.{estimateIn};
 ghost use Rattle.splits.specs.Splits.{splits, borderOf};
 use keys::numbers::same_key;
 use timeline::estimate::Estimate;

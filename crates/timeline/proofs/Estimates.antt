@@ -8,8 +8,8 @@ use Rattle.laws.proofs.Front.{list-same, list-own}
 use Rattle.laws.proofs.Column.{column-at}
 use Rattle.keys.specs.Numbers.{keyNumber}
 use Rattle.keys.proofs.Placed.{numbers-are-keys}
-use Rattle.timeline.specs.Estimates.{EstimateRows, holdingEstimates, estimateIn, estimatesIn, Numbered}
-use Rattle.timeline.specs.Estimates.{noEstimate}
+use Rattle.timeline.specs.Estimates.{EstimateRows, holdingEstimates, noEstimate}
+use Rattle.timeline.specs.inside.Estimates.{estimateIn, estimatesIn, Numbered}
 use Rattle.timeline.specs.declared.estimate.Estimate.{Estimate}
 
 pub rows-numbered : (found : List Estimate) (before : EstimateRows) → Numbered (holdingEstimates found before .keys) (length found)

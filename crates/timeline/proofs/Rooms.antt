@@ -3,7 +3,8 @@ use Prim.Native.Nat.{ℕ, _≤_}
 use native.Mathlib.Omega.{arith}
 use lib.ListN.{length}
 use Rattle.timeline.specs.Estimates.{EstimateRows, estimateRoom}
-use Rattle.timeline.specs.Segments.{SegmentRows, segmentRoom, Room}
+use Rattle.timeline.specs.Segments.{SegmentRows, segmentRoom}
+use Rattle.timeline.specs.inside.Segments.{Room}
 
 pub room-within : (rows : SegmentRows) (n : ℕ) → n ≤ segmentRoom rows → Room rows n
 room-within rows n h = record { starts = omega arith; ends = omega arith; keys = omega arith; confidences = omega arith }

@@ -1,3 +1,4 @@
 pub mod Estimates
 pub mod Segments
 pub mod Tiling
+pub mod inside

@@ -1,11 +1,11 @@
 -- A stretch of time with one key, [start, end) in seconds, and such segments in lent rows: four slices side by side, with keys by number. Definitions only.
-use Prim.Native.Nat.{ℕ, _≤_, min}
+use Prim.Native.Nat.{ℕ}
 use mathlib.Core.Bool.{Bool}
-use mathlib.Core.List.{List, map}
-use lib.ListN.{length, getD, set}
+use mathlib.Core.List.{List, [], _∷_, map}
+use lib.ListN.{length, getD}
 use denote.Ref.{RefT, now}
 use lib.Ieee.{Float, nan, binary64, sub, lt}
-use Rattle.laws.specs.Front.{front, list}
+use Rattle.laws.specs.Front.{front, list, shortest}
 use Rattle.laws.specs.Values.{plusZero}
 use Rattle.laws.specs.Pick.{maximumNumber, minimumNumber}
 use Rattle.keys.specs.declared.Key.{Key}
@@ -52,11 +52,6 @@ segmentRows starts ends keys confidences = record { starts = starts; ends = ends
 abbrev pub lentSegments : RefT (List Float) → RefT (List Float) → RefT (List ℕ) → RefT (List Float) → SegmentRows
 lentSegments starts ends keys confidences = segmentRows (now starts) (now ends) (now keys) (now confidences)
 
--- the rows with one segment put into place n
-abbrev pub putSegment : Segment → ℕ → SegmentRows → SegmentRows
-putSegment s n r =
-    segmentRows (set (r .starts) n (s .start)) (set (r .ends) n (s .end)) (set (r .keys) n (keyNumber (s .key))) (set (r .confidences) n (s .confidence))
-
 -- the rows once these segments stand in the first places
 abbrev pub holdingSegments : List Segment → SegmentRows → SegmentRows
 holdingSegments segments before =
@@ -74,26 +69,6 @@ segmentIn r i = segment (getD (r .starts) i nan) (getD (r .ends) i nan) (keyAt (
 abbrev pub segmentsIn : SegmentRows → ℕ → List Segment
 segmentsIn r count = list (segmentIn r) count
 
--- so many rows are there
-pub record Room (before : SegmentRows) (count : ℕ) : Type 0 where
-  pub starts : count ≤ length (before .starts)
-  pub ends : count ≤ length (before .ends)
-  pub keys : count ≤ length (before .keys)
-  pub confidences : count ≤ length (before .confidences)
-
--- how many rows there are: as many as in the shortest slice
+-- how many rows there are
 abbrev pub segmentRoom : SegmentRows → ℕ
-segmentRoom r = min (length (r .starts)) (min (length (r .ends)) (min (length (r .keys)) (length (r .confidences))))
-
--- how many segments there are, and the rows that hold them
-pub record Filled : Type 0 where
-  pub count : ℕ
-  pub rows : SegmentRows
-
--- both together
-abbrev pub filled : ℕ → SegmentRows → Filled
-filled count rows = record { count = count; rows = rows }
-
--- these segments stand in the first rows
-abbrev pub standing : List Segment → SegmentRows → Filled
-standing segments before = filled (length segments) (holdingSegments segments before)
+segmentRoom r = shortest (length (r .starts)) (length (r .ends) ∷ length (r .keys) ∷ length (r .confidences) ∷ [])

@@ -10,10 +10,14 @@ use Rattle.laws.specs.Values.{plusZero, Held}
 use Rattle.timeline.specs.Segments.{short, segmentAt}
 use Rattle.timeline.specs.declared.segment.Segment.{Segment}
 
--- the segments tile zero to the duration; each end is a time, a finite number from +0 up
+-- a time in seconds: a finite f64 from +0 up
+abbrev pub Time : Float → Type 0
+Time = Held binary64
+
+-- the segments tile zero to the duration
 pub record Tiles (duration : Float) (segments : List Segment) : Type 0 where
   pub some : 0 < length segments
-  pub times : (i : ℕ) → i < length segments → Held binary64 (segmentAt segments i .end)
+  pub times : (i : ℕ) → i < length segments → Time (segmentAt segments i .end)
   pub first-start : segmentAt segments 0 .start ≡ plusZero
   pub next-start : (i : ℕ) → i + 1 < length segments → segmentAt segments (i + 1) .start ≡ segmentAt segments i .end
   pub last-end : (i : ℕ) → i + 1 ≡ length segments → segmentAt segments i .end ≡ duration

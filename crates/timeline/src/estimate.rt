@@ -2,7 +2,8 @@
 ghost use mathlib.Core.Path.{_≡_};
 ghost use Prim.Native.Nat.{_<_};
 ghost use lib.ListN.{length};
-ghost use Rattle.timeline.specs.Estimates.{lentEstimates, putEstimate, estimateIn, estimateRoom};
+ghost use Rattle.timeline.specs.Estimates.{lentEstimates, estimateRoom};
+ghost use Rattle.timeline.specs.inside.Estimates.{putEstimate, estimateIn};
 use crate::stored::stored_key;
 use keys::Key;
 use keys::numbers::key_number;

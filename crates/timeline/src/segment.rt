@@ -2,7 +2,8 @@
 ghost use mathlib.Core.Path.{_≡_};
 ghost use Prim.Native.Nat.{_<_};
 ghost use lib.ListN.{length};
-ghost use Rattle.timeline.specs.Segments.{emptied, seconds, short, joined, lentSegments, putSegment, segmentIn, segmentRoom};
+ghost use Rattle.timeline.specs.Segments.{emptied, seconds, short, joined, lentSegments, segmentIn, segmentRoom};
+ghost use Rattle.timeline.specs.inside.Segments.{putSegment};
 use crate::stored::stored_key;
 use keys::Key;
 use keys::numbers::key_number;

@@ -8,8 +8,7 @@ use Rattle.numbers.specs.Sum.{sumOf}
 use Rattle.whitening.specs.Levels.{normalizedOf}
 use Rattle.chroma.specs.Shift.{retunedOf}
 use Rattle.chroma.specs.Tuning.{tuningOf}
-use Rattle.key_choice.specs.Classify.{confidenceOf, classifiedOf}
-use Rattle.key_choice.specs.declared.classify.Classified.{Classified}
+use Rattle.key_choice.specs.Classify.{certaintyOf, classifiedOf}
 use Rattle.verdicts.specs.declared.verdict.Verdict.{Verdict}
 
 -- the medians sum to at most 2^-23
@@ -20,10 +19,9 @@ faint medians = le (sumOf 12 medians) epsilon
 unfoldable pub tunedOf : List Float → List (List Float) → ℕ → List Float
 tunedOf medians values count = normalizedOf (retunedOf medians (tuningOf values count))
 
--- the key that the scores tell of a chroma, and the confidence in it
-abbrev pub verdict : List Float → Classified → Verdict
-verdict chroma c = record { key = c .key; confidence = confidenceOf (c .best) (c .second); chroma = chroma }
-
--- of the track's chroma
+-- of the track's chroma: the key that its scores tell, and the confidence in it
 unfoldable pub verdictOf : List Float → List (List Float) → ℕ → Verdict
-verdictOf medians values count = verdict (tunedOf medians values count) (classifiedOf (tunedOf medians values count))
+verdictOf medians values count =
+    let chroma = tunedOf medians values count in
+    let c = classifiedOf chroma in
+    record { key = c .key; confidence = certaintyOf c; chroma = chroma }

@@ -25,7 +25,7 @@ use Rattle.laws.proofs.Middle.{modest-under}
 use Rattle.laws.proofs.Parts.{whole-is, parts-rounds, parts-modest}
 use Rattle.calls.specs.declared.Settings.{Settings}
 use Rattle.windows.specs.Span.{spanOf, startOf, brief, endsAt, budgetFor, windowsWithin, windowsOf, rowsAsked}
-use Rattle.calls.specs.Call.{longestTrack}
+use Rattle.calls.specs.Call.{secondsAt, longestTrack}
 use Rattle.windows.specs.Rising.{Timed}
 use Rattle.windows.specs.declared.span.Span.{Span}
 use Rattle.windows.proofs.Starts.{start-first}
@@ -83,7 +83,7 @@ finite-clear (fin s m e) h c = c
 
 module _ (s : Settings) (count : ℕ) (rated : 0 < s .rate) (slow : s .rate ≤ 192_000) (short : count ≤ longestTrack * s .rate) where
   lasts : Rounds binary64 (spanOf s count .duration) count (s .rate)
-  unfolding spanOf
+  unfolding spanOf secondsAt
   lasts =
       subst₂ (λ (x y : Float). Rounds binary64 (div binary64 x y) count (s .rate)) (sym (whole-is binary64 count)) (sym (whole-is binary64 (s .rate)))
       (whole-rounds binary64 count (s .rate) (omega arith) rated (omega arith))

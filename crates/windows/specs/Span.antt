@@ -1,12 +1,11 @@
 -- The time that windows run over and where each starts, written from the Rust's `analyze` and `estimate_segments`. Definitions only.
 use Prim.Native.Nat.{ℕ, _+_, _*_, max}
 use mathlib.Core.Bool.{Bool, not, cond}
-use lib.IntN.{pos}
-use lib.Ieee.{Float, binary64, ofInt, add, div, lt, le}
+use lib.Ieee.{Float, binary64, add, lt, le}
 use Rattle.laws.specs.Turns.{turns}
 use Rattle.laws.specs.First.{first}
 use Rattle.laws.specs.Values.{plusZero}
-use Rattle.calls.specs.Call.{longestTrack}
+use Rattle.calls.specs.Call.{secondsAt, longestTrack}
 use Rattle.calls.specs.declared.Settings.{Settings}
 use Rattle.windows.specs.declared.span.Span.{Span}
 
@@ -16,7 +15,7 @@ spanOf s count =
     record {
       window = s .«local_window_seconds»;
       hop = s .«local_hop_seconds»;
-      duration = div binary64 (ofInt binary64 (pos count)) (ofInt binary64 (pos (s .rate)));
+      duration = secondsAt s count;
     }
 
 -- shorter than a window and a hop: such a track is not cut into windows

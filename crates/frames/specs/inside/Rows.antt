@@ -8,7 +8,7 @@ use Rattle.calls.specs.Call.{Call, positionsOf}
 use Rattle.calls.specs.Rows.{Rows, rows}
 use Rattle.sheets.specs.Sheet.{Formed}
 use Rattle.one_frame.specs.declared.frame.Row.{Row}
-use Rattle.frames.specs.Run.{loudBefore, stopOf, holdingFrames}
+use Rattle.frames.specs.Run.{loudBefore, holdingFrames, stopAt}
 use Rattle.frames.specs.declared.run.Filled.{Filled}
 use Rattle.frames.specs.declared.run.Filled.the-variants.{All, NotFinite}
 
@@ -33,7 +33,7 @@ runTo c positions k before =
 
 -- over so many positions
 unfoldable pub runOf : Call → ℕ → Rows → Run
-runOf c positions before = runTo c positions (stopOf c positions) before
+runOf c positions before = runTo c positions (stopAt c positions) before
 
 -- what a run needs: the checks show it
 pub record Ready (c : Call) (before : Rows) (positions : ℕ) : Type 0 where

@@ -1,7 +1,8 @@
 -- Segments from estimates to lent rows, as the code has them: by a track's numbers. No promise names it. Definitions only.
 use mathlib.Core.List.{List}
 use Rattle.timeline.specs.declared.estimate.Estimate.{Estimate}
-use Rattle.timeline.specs.Segments.{SegmentRows, Filled}
+use Rattle.timeline.specs.Segments.{SegmentRows}
+use Rattle.timeline.specs.inside.Segments.{FilledRows}
 use Rattle.groups.specs.Groups.{firstSegments}
 use Rattle.shortening.specs.Shorten.{shortenedOf, settled}
 use Rattle.segments.specs.declared.fill.Track.{Track}
@@ -16,5 +17,5 @@ unfoldable pub segmentsOf : Track → List Estimate → List Segment
 segmentsOf t found = shortenedOf (t .minimum) (cutOf t found)
 
 -- the segments of these estimates in the rows
-unfoldable pub filledOf : Track → List Estimate → SegmentRows → Filled
+unfoldable pub filledOf : Track → List Estimate → SegmentRows → FilledRows
 filledOf t found before = settled (t .minimum) (cutOf t found) before

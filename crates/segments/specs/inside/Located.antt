@@ -3,7 +3,8 @@ use Prim.Native.Nat.{ℕ}
 use mathlib.Core.Bool.{cond}
 use lib.ListN.{length}
 use Rattle.timeline.specs.Estimates.{EstimateRows, holdingEstimates}
-use Rattle.timeline.specs.Segments.{SegmentRows, Filled, Room}
+use Rattle.timeline.specs.Segments.{SegmentRows}
+use Rattle.timeline.specs.inside.Segments.{FilledRows, Room}
 use Rattle.windows.specs.Span.{windowsOf}
 use Rattle.gathering.specs.Gather.{Heard}
 use Rattle.windows.specs.Run.{halts, estimatesOf}
@@ -25,7 +26,7 @@ abbrev pub locatedIn : Located → EstimateRows → SegmentRows → LocatedIn
 locatedIn answer estimates segments = record { answer = answer; estimates = estimates; segments = segments }
 
 -- both counts, with the segments in their rows
-abbrev pub toldIn : ℕ → EstimateRows → Filled → LocatedIn
+abbrev pub toldIn : ℕ → EstimateRows → FilledRows → LocatedIn
 toldIn found estimates f = locatedIn (Told found (f .count)) estimates (f .rows)
 
 -- the estimates become segments, unless the start of a window did not grow: then no segment is written

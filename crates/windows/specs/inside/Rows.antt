@@ -6,7 +6,8 @@ use lib.ListN.{length}
 use lib.Ieee.{Float}
 use Rattle.laws.specs.First.{first}
 use Rattle.gathering.specs.Gather.{Heard}
-use Rattle.timeline.specs.Estimates.{EstimateRows, putEstimate, holdingEstimates}
+use Rattle.timeline.specs.Estimates.{EstimateRows, holdingEstimates}
+use Rattle.timeline.specs.inside.Estimates.{putEstimate}
 use Rattle.windows.specs.Run.{estimateFrom, silent, estimatesBefore, stuckAt}
 use Rattle.windows.specs.declared.span.Span.{Span}
 use Rattle.windows.specs.declared.run.Estimated.{Estimated}

@@ -8,7 +8,7 @@ use lib.ListN.{length}
 use borrow.Author.Needs.{needs}
 use Rattle.laws.specs.First.{first}
 use Rattle.laws.proofs.First.{first-start, first-again, first-out, first-end}
-use Rattle.card.specs.Rules.{segmentIn, before, brokenAt, firstBroken}
+use Rattle.card.specs.Rules.{before, brokenAt, firstBroken, cardSegment}
 use Rattle.card_judge.specs.Analysed.{packedSegments}
 use Rattle.card.specs.declared.layout.Segment.{Segment}
 use Rattle.card_judge.proofs.Broken.{segments-count, segment-packed, told-broken}
@@ -18,7 +18,7 @@ use Rattle.card_judge.proofs.analysed.first_broken.Tie as tie
 abbrev Inv-loop : tie.InvT-loop
 Inv-loop l ends keys confidences count previous₀ i₀ previous i =
     let ss = packedSegments l ends keys confidences in
-    (i ≤ count) × (first (brokenAt l ss) (count - i) i ≡ firstBroken l ss) × (previous ≡ before 0 (λ (k : ℕ). segmentIn ss k .end) i)
+    (i ≤ count) × (first (brokenAt l ss) (count - i) i ≡ firstBroken l ss) × (previous ≡ before 0 (λ (k : ℕ). cardSegment ss k .end) i)
 
 abbrev μ-loop : tie.MeasureT-loop
 μ-loop l ends keys confidences count previous₀ i₀ previous i = count - i
@@ -84,7 +84,7 @@ loop-again c =
       omega (arith, inside t),
       first-again (brokenAt (args .l) (ss t)) (length (args .ends .now)) i (turn t .loop .inv .1) (inside t) (tested t ∙ c .if2 .left),
       ap (λ (s : Segment). s .end) (t .before .packed-segment .ensures ∙ sym (segment-packed (args .l) (args .ends .now) (args .keys .now) (args .confidences .now) i (inside t)))
-          ∙ ap (before 0 (λ (k : ℕ). segmentIn (ss t) k .end)) (sym (add-one i)),
+          ∙ ap (before 0 (λ (k : ℕ). cardSegment (ss t) k .end)) (sym (add-one i)),
     )
 
 returns : tie.Need-returns Inv-loop μ-loop

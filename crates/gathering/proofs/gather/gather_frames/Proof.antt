@@ -9,7 +9,7 @@ use lib.ListN.{getD}
 use lib.Ieee.{Float, nan, ofBits}
 use Rattle.laws.specs.Turns.{turns}
 use Rattle.laws.proofs.Turns.{turns-again, turns-end}
-use Rattle.gathering.specs.Gather.{Heard, within, withFrame, heard, gatherTurn, gatheredAfter}
+use Rattle.gathering.specs.Gather.{Heard, withFrame, heard, gatherTurn, gatheredAfter, inWindow}
 use Rattle.gathering.specs.declared.gather.Gathered.{Gathered}
 use Rattle.gathering.proofs.gather.gather_frames.Statement.{statement}
 use Rattle.gathering.proofs.gather.gather_frames.Tie as tie
@@ -23,7 +23,7 @@ abbrev μ-loop : tie.MeasureT-loop
 μ-loop start end from stop centres values gathered₀ i₀ gathered i = stop - i
 
 -- what a turn makes of a frame within, and of any other
-module _ (h : Heard) (start end : Float) (i : ℕ) (g : Gathered) {flag : Bool} (told : flag ≡ within start end (getD (h .centres) i nan)) where
+module _ (h : Heard) (start end : Float) (i : ℕ) (g : Gathered) {flag : Bool} (told : flag ≡ inWindow start end (getD (h .centres) i nan)) where
   abbrev either : Bool → Gathered
   either inside = cond inside (withFrame (getD (h .values) i []) g) g
 

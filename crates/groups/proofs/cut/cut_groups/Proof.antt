@@ -5,7 +5,8 @@ use Prim.Native.Nat.{ℕ, _-_}
 use native.Mathlib.Omega.{arith}
 use lib.Ieee.{ofBits}
 use Rattle.timeline.specs.Estimates.{estimateRows}
-use Rattle.timeline.specs.Segments.{segmentRows, putSegment}
+use Rattle.timeline.specs.Segments.{segmentRows}
+use Rattle.timeline.specs.inside.Segments.{putSegment}
 use Rattle.groups.specs.Written.{groupIn}
 use Rattle.groups.specs.declared.cut.Group.{Group}
 use Rattle.groups.proofs.Cuts.{Cut, cut-start, cut-on, cut-off, cut-end}

@@ -4,15 +4,15 @@ use Rattle.laws.specs.Turns.{turns}
 use Rattle.laws.proofs.Turns.{turns-start, turns-again, turns-end}
 use mathlib.Core.Path.{_≡_, refl}
 use native.Mathlib.Omega.{arith}
-use Prim.Native.Nat.{_≤_, _-_}
-use lib.ListN.{length}
-use lib.Ieee.{ofBits, neg}
-use Rattle.numbers.specs.Sum.{sumTurn, sumOf}
+use Prim.Native.Nat.{ℕ, _≤_, _-_}
+use lib.ListN.{length, getD}
+use lib.Ieee.{Float, nan, binary32, add, ofBits, neg}
+use Rattle.numbers.specs.Sum.{sumOf}
 use Rattle.groups.proofs.cut.sum_confidences.Statement.{statement}
 use Rattle.groups.proofs.cut.sum_confidences.Tie as tie
 
 abbrev Inv-loop : tie.InvT-loop
-Inv-loop confidences count sum₀ i₀ sum i = (i ≤ length confidences) × (turns (sumTurn confidences) (length confidences - i) i sum ≡ sumOf (length confidences) confidences)
+Inv-loop confidences count sum₀ i₀ sum i = (i ≤ length confidences) × (turns (λ (j : ℕ) (s : Float). add binary32 s (getD confidences j nan)) (length confidences - i) i sum ≡ sumOf (length confidences) confidences)
 
 abbrev μ-loop : tie.MeasureT-loop
 μ-loop confidences count sum₀ i₀ sum i = length confidences - i

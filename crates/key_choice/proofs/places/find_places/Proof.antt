@@ -2,17 +2,18 @@
 use borrow.Author.Needs.{needs}
 use mathlib.Core.Path.{_≡_, ap, _∙_}
 use native.Mathlib.Omega.{arith}
-use Prim.Native.Nat.{_≤_, _-_}
+use Prim.Native.Nat.{ℕ, _≤_, _-_}
 use lib.Ieee.{ofBits, neg, div}
 use Rattle.laws.specs.Turns.{turns}
 use Rattle.laws.proofs.Turns.{turns-start, turns-again, turns-end}
-use Rattle.key_choice.specs.Places.{placed, placeTurn, placesOf}
+use Rattle.key_choice.specs.Places.{placed, candidateAt, placesOf}
+use Rattle.key_choice.specs.declared.places.Places.{Places}
 use Rattle.keys.specs.Numbers.{tonics}
 use Rattle.key_choice.proofs.places.find_places.Statement.{statement}
 use Rattle.key_choice.proofs.places.find_places.Tie as tie
 
 abbrev Inv-loop : tie.InvT-loop
-Inv-loop scores places₀ turn₀ places turn = (turn ≤ 24) × (turns (placeTurn scores) (24 - turn) turn places ≡ placesOf scores)
+Inv-loop scores places₀ turn₀ places turn = (turn ≤ 24) × (turns (λ (t : ℕ) (p : Places). placed p (candidateAt scores t)) (24 - turn) turn places ≡ placesOf scores)
 
 abbrev μ-loop : tie.MeasureT-loop
 μ-loop scores places₀ turn₀ places turn = 24 - turn

@@ -2,17 +2,18 @@
 use borrow.Author.Needs.{needs}
 use mathlib.Core.Path.{_≡_, refl}
 use native.Mathlib.Omega.{arith}
-use Prim.Native.Nat.{_≤_, _-_}
-use lib.Ieee.{ofBits, neg}
+use Prim.Native.Nat.{ℕ, _≤_, _-_}
+use lib.ListN.{getD}
+use lib.Ieee.{Float, nan, binary32, add, ofBits, neg}
 use Rattle.laws.specs.Turns.{turns}
 use Rattle.laws.specs.Values.{minusZero}
 use Rattle.laws.proofs.Turns.{turns-start, turns-again, turns-end}
-use Rattle.numbers.specs.Sum.{sumTurn, sumOf}
+use Rattle.numbers.specs.Sum.{sumOf}
 use Rattle.numbers.proofs.twelve.sum_of_twelve.Statement.{statement}
 use Rattle.numbers.proofs.twelve.sum_of_twelve.Tie as tie
 
 abbrev Inv-loop : tie.InvT-loop
-Inv-loop values sum₀ i₀ sum i = (i ≤ 12) × (turns (sumTurn values) (12 - i) i sum ≡ turns (sumTurn values) 12 0 minusZero)
+Inv-loop values sum₀ i₀ sum i = (i ≤ 12) × (turns (λ (j : ℕ) (s : Float). add binary32 s (getD values j nan)) (12 - i) i sum ≡ turns (λ (j : ℕ) (s : Float). add binary32 s (getD values j nan)) 12 0 minusZero)
 
 abbrev μ-loop : tie.MeasureT-loop
 μ-loop values sum₀ i₀ sum i = 12 - i

@@ -1,5 +1,5 @@
 -- `frame_centre` meets its contract: std rounds both numbers.
-use Rattle.one_frame.specs.Frame.{secondsAt}
+use Rattle.calls.specs.Call.{secondsAt}
 use borrow.Author.Needs.{needs}
 use mathlib.Core.Path.{refl}
 use Rattle.one_frame.proofs.frame.frame_centre.Statement.{statement}

@@ -1,6 +1,6 @@
 -- What the calls ensure, put together.
 use borrow.Author.Needs.{needs}
-use Rattle.timeline.specs.Estimates.{estimateIn}
+use Rattle.timeline.specs.inside.Estimates.{estimateIn}
 use Rattle.timeline.proofs.estimate.estimate_at.Statement.{statement}
 use Rattle.timeline.proofs.estimate.estimate_at.Tie as tie
 

@@ -9,7 +9,8 @@ use lib.Dec.{eqb}
 use lib.Ieee.{Float, binary64, add, ofBits}
 use Rattle.laws.specs.Convert.{half}
 use Rattle.gathering.specs.Gather.{Heard, heard, gatheredOf}
-use Rattle.timeline.specs.Estimates.{EstimateRows, putEstimate}
+use Rattle.timeline.specs.Estimates.{EstimateRows}
+use Rattle.timeline.specs.inside.Estimates.{putEstimate}
 use Rattle.windows.specs.Estimates.{estimateOf}
 use Rattle.windows.specs.Run.{gatheredFrom, estimateFrom, silent}
 use Rattle.windows.specs.inside.Rows.{Written, wrote, windowWritten}

@@ -1,5 +1,6 @@
 -- std rounds both numbers, and widening changes no value.
 use borrow.Author.Needs.{needs}
+use Rattle.calls.specs.Call.{secondsAt}
 use Rattle.windows.specs.Span.{spanOf}
 use Rattle.windows.proofs.span.span_of.Statement.{statement}
 use Rattle.windows.proofs.span.span_of.Tie as tie
@@ -20,7 +21,7 @@ widen-requires-2 : tie.Need-widen-requires-2
 widen-requires-2 c κs = search needs
 
 returns : tie.Need-returns
-unfolding spanOf
+unfolding spanOf secondsAt
 returns c = cc
 
 pub span-of-spec : {M : Type 1} → statement M

@@ -1,0 +1,2 @@
+-- What only proofs need: no promise names it.
+pub mod With
