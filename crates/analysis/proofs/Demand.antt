@@ -1,7 +1,7 @@
 -- Demand 3: only a call that passes the table and comes to its segments reports a key, and those segments are laid out over the duration.
-use mathlib.Core.Path.{_≡_, refl, sym, ap, subst, _∙_}
-use mathlib.Core.Bool.{Bool, true, false, cond}
-use mathlib.Core.List.{List, [], map}
+use mathlib.Core.Path.{_≡_, refl, sym, ap, subst}
+use mathlib.Core.Bool.{Bool}
+use mathlib.Core.List.{List, map}
 use Prim.Native.Nat.{ℕ, _<_}
 use native.Mathlib.Omega.{arith}
 use lib.Dec.{T, ltb, eqb, eqb→eq}
@@ -20,7 +20,6 @@ use Rattle.checks.specs.declared.Checked.the-variants.{Refused, Empty, Go}
 use Rattle.checks.proofs.Passed.{Passed, passed}
 use Rattle.timeline.specs.Estimates.{holdingEstimates}
 use Rattle.timeline.specs.Segments.{segmentAt, segmentsIn, holdingSegments}
-use Rattle.timeline.specs.declared.estimate.Estimate.{Estimate}
 use Rattle.timeline.specs.declared.segment.Segment.{Segment}
 use Rattle.windows.specs.Span.{spanOf}
 use Rattle.gathering.specs.Gather.{Heard}
@@ -32,7 +31,6 @@ use Rattle.windows.specs.Run.{halts, estimatesOf}
 use Rattle.windows.proofs.Spans.{duration-under}
 use Rattle.segments.specs.Demand.{LaidOut}
 use Rattle.segments.specs.inside.Fill.{cutOf, segmentsOf, filledOf}
-use Rattle.segments.specs.declared.fill.Track.{Track}
 use Rattle.segments.proofs.LaidOut.{track-laid-out, filled-read-back}
 use Rattle.shortening.specs.Shorten.{leftIn}
 use Rattle.longest.specs.Longest.{reportedOf}
@@ -53,7 +51,7 @@ use Rattle.rooms.specs.Room.{hasty, tooSmall}
 use Rattle.rooms.proofs.Budget.{finite-ordered, passed-timed}
 use Rattle.reports.specs.Report.{namedIn, Report, report, reportOf}
 use Rattle.reports.specs.inside.Rows.{trackOf}
-use Rattle.loud_frames.specs.Loud.{AnalyseOutcome, analyseOutcome, reportLeft, chromasOf, heardOf, mediansAnalysed, loudAnalysed}
+use Rattle.loud_frames.specs.Loud.{analyseOutcome, reportLeft, chromasOf, heardOf, loudAnalysed}
 use Rattle.positions.specs.Positions.{positionsAnalysed}
 use Rattle.analysis.specs.Analyse.{afterChecks, tableOf}
 use Rattle.analysis.specs.Demand.{Alternating, LongestAnswered, Kept, DemandThree, AnalysisKeeps}

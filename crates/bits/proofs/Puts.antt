@@ -8,7 +8,7 @@ use lib.ListN.{length, take, drop, getD, replicate, length-append, take-append-d
 use lib.Seq.{drop-drop, length-take-le}
 use lib.Dec.{lit<}
 use Rattle.bits.specs.Bits.{bitsOf, bitsOfBytes, bytesFor, withFiller, bytesOf}
-use Rattle.bits.specs.Pens.{PenReady, BitsPut, putSoFar, freshPen}
+use Rattle.bits.specs.inside.Pens.{PenReady, BitsPut, putSoFar, freshPen}
 use Rattle.bits.specs.declared.pen.Pen.{Pen}
 use Rattle.bits.proofs.Digits.{length-bits, cut-bytes}
 

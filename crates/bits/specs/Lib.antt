@@ -1,2 +1,2 @@
 pub mod Bits
-pub mod Pens
+pub mod inside

@@ -1,6 +1,6 @@
 // A pen that puts numbers of few bits into lent bytes, most significant bit first.
 ghost use Rattle.bits.specs.Bits.{bitsOf};
-ghost use Rattle.bits.specs.Pens.{CanPut, BitsPut};
+ghost use Rattle.bits.specs.inside.Pens.{CanPut, BitsPut};
 use crate::masks::joined;
 use crate::masks::low_bits;
 

@@ -24,8 +24,8 @@ use Rattle.constant_q.specs.ConstantQ.{coveredFrom, coveredCount, halfLeft, row
 use Rattle.constant_q.specs.declared.lanes.Lane.{Lane}
 use Rattle.constant_q.proofs.Spans.{joined-within}
 use Rattle.constant_q.proofs.Rows.{power-of-row}
-use Rattle.blocks.specs.Eight.{laterBy, EightLie, eightPowers}
-use Rattle.blocks.specs.Block.{laterCentre, wholeAt, allWhole, Inside, emptyBlock, rowAdded, chromasOf}
+use Rattle.blocks.specs.inside.Eight.{laterBy, EightLie, eightPowers}
+use Rattle.blocks.specs.inside.Block.{laterCentre, wholeAt, allWhole, Inside, emptyBlock, rowAdded, chromasOf}
 
 -- a window that is whole at eight positions
 pub record Whole (samples centre hop size : ℕ) : Type 0 where

@@ -9,7 +9,7 @@ use Rattle.constant_q.specs.inside.Lanes.{FourLie, lanePower, fourDelays}
 use Rattle.constant_q.specs.declared.lanes.Lane.{Lane}
 use Rattle.constant_q.specs.declared.lanes.Lanes.{Lanes}
 use Rattle.constant_q.specs.declared.lanes.Powers.{Powers}
-use Rattle.blocks.specs.Eight.{laterBy, fourApart, EightLie, eightDelays, powersLeft, eightPowers}
+use Rattle.blocks.specs.inside.Eight.{laterBy, fourApart, EightLie, eightDelays, powersLeft, eightPowers}
 use Rattle.blocks.specs.declared.eight.Eight.{Eight}
 
 four-lie : {samples windows : ℕ} (hop : ℕ) (lane : Lane) → lane .start + 3 * hop + lane .count ≤ samples → lane .first + lane .count ≤ windows → lane .count < 0x1_0000_0000 → FourLie samples windows (fourApart hop lane)

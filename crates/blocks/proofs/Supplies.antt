@@ -11,8 +11,8 @@ use Rattle.laws.specs.Front.{list}
 use Rattle.laws.proofs.Front.{length-list, getD-list, getD-front, filled-start, filled-more}
 use Rattle.calls.specs.Call.{Sheet}
 use Rattle.constant_q.specs.ConstantQ.{constantQOf}
-use Rattle.blocks.specs.Block.{laterCentre, allWhole, Inside, chromasOf}
-use Rattle.blocks.specs.Stock.{middleAt, constantAt, Centred, Tuned, Stock, FilledFrom, HandedOut}
+use Rattle.blocks.specs.inside.Block.{laterCentre, allWhole, Inside, chromasOf}
+use Rattle.blocks.specs.inside.Stock.{middleAt, constantAt, Centred, Tuned, Stock, FilledFrom, HandedOut}
 use Rattle.blocks.specs.declared.stock.Held.{Held}
 
 module _ (chroma : ℕ → List Float) (k : ℕ) where

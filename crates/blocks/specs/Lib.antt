@@ -1,3 +1,1 @@
-pub mod Eight
-pub mod Block
-pub mod Stock
+pub mod inside

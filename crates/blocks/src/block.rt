@@ -3,7 +3,7 @@ ghost use mathlib.Core.Path.{_≡_};
 ghost use Prim.Native.Nat.{_+_, _*_, _<_, _≤_};
 ghost use lib.ListN.{length};
 ghost use Rattle.constant_q.specs.inside.Powers.{constantQRows};
-ghost use Rattle.blocks.specs.Block.{wholeAt, allWhole, Inside, emptyBlock, rowAdded, chromasOf};
+ghost use Rattle.blocks.specs.inside.Block.{wholeAt, allWhole, Inside, emptyBlock, rowAdded, chromasOf};
 use crate::eight::eight_powers;
 use constant_q::powers::place;
 use filters::classes::class_at;

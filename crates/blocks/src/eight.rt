@@ -3,7 +3,7 @@ ghost use mathlib.Core.Path.{_≡_};
 ghost use Prim.Native.Nat.{_+_, _*_, _^_, _<_, _≤_};
 ghost use lib.ListN.{length};
 ghost use Rattle.constant_q.specs.inside.Lanes.{FourLie, fewestOf};
-ghost use Rattle.blocks.specs.Eight.{laterBy, fourApart, EightLie, restOfFour, eightDelays, powersLeft, eightPowers};
+ghost use Rattle.blocks.specs.inside.Eight.{laterBy, fourApart, EightLie, restOfFour, eightDelays, powersLeft, eightPowers};
 use constant_q::lanes::Delays;
 use constant_q::lanes::Lane;
 use constant_q::lanes::Lanes;

@@ -3,7 +3,7 @@ ghost use mathlib.Core.Path.{_≡_};
 ghost use Prim.Native.Nat.{_<_, _≤_};
 ghost use lib.ListN.{length};
 ghost use Rattle.constant_q.specs.inside.Powers.{constantQRows};
-ghost use Rattle.blocks.specs.Stock.{constantAt, Centred, Tuned, Stock, FilledFrom, HandedOut};
+ghost use Rattle.blocks.specs.inside.Stock.{constantAt, Centred, Tuned, Stock, FilledFrom, HandedOut};
 use crate::block::are_whole;
 use crate::block::write_chromas;
 use constant_q::chroma::constant_q_chroma;

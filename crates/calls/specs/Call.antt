@@ -24,32 +24,15 @@ pub record Call : Type 0 where
   pub samples : List Float
   pub sheet : Sheet
 
--- a sheet, from its head and its lists
-abbrev pub sheetOf : SheetHead → List Float → List Float → List Float → List ℕ → List Float → List Float → Sheet
-sheetOf head window coefficients weights lengths qCoefficients qWindows =
-    record {
-      head = head;
-      window = window;
-      goertzelCoefficients = coefficients;
-      goertzelWeights = weights;
-      constantQLengths = lengths;
-      constantQCoefficients = qCoefficients;
-      constantQWindows = qWindows;
-    }
-
--- a call, from its parts
-abbrev pub callOf : Settings → SheetHead → List Float → List Float → List Float → List Float → List ℕ → List Float → List Float → Call
-callOf settings head samples window coefficients weights lengths qCoefficients qWindows =
-    record { settings = settings; samples = samples; sheet = sheetOf head window coefficients weights lengths qCoefficients qWindows }
-
 -- a sheet as a contract has it: what the references refer to
 abbrev pub lentSheet : SheetHead → RefT (List Float) → RefT (List Float) → RefT (List Float) → RefT (List ℕ) → RefT (List Float) → RefT (List Float) → Sheet
-lentSheet head window coefficients weights lengths qCoefficients qWindows = sheetOf head (now window) (now coefficients) (now weights) (now lengths) (now qCoefficients) (now qWindows)
+lentSheet head window coefficients weights lengths qCoefficients qWindows =
+    record { head = head; window = now window; goertzelCoefficients = now coefficients; goertzelWeights = now weights; constantQLengths = now lengths; constantQCoefficients = now qCoefficients; constantQWindows = now qWindows }
 
 -- a call as a contract has it
 abbrev pub given : Settings → SheetHead → RefT (List Float) → RefT (List Float) → RefT (List Float) → RefT (List Float) → RefT (List ℕ) → RefT (List Float) → RefT (List Float) → Call
 given settings head samples window coefficients weights lengths qCoefficients qWindows =
-    callOf settings head (now samples) (now window) (now coefficients) (now weights) (now lengths) (now qCoefficients) (now qWindows)
+    record { settings = settings; samples = now samples; sheet = lentSheet head window coefficients weights lengths qCoefficients qWindows }
 
 -- a sample's time in seconds
 unfoldable pub secondsAt : Settings → ℕ → Float

@@ -12,13 +12,9 @@ pub record Rows : Type 0 where
   pub values : List (List Float)
   pub energies : List Float
 
--- the same, from its parts
-abbrev pub rows : List Float → List (List Float) → List Float → Rows
-rows centres values energies = record { centres = centres; values = values; energies = energies }
-
 -- as a contract has it: what the references refer to
 abbrev pub lentRows : RefT (List Float) → RefT (List (List Float)) → RefT (List Float) → Rows
-lentRows centres values energies = rows (now centres) (now values) (now energies)
+lentRows centres values energies = record { centres = now centres; values = now values; energies = now energies }
 
 -- how many rows there is room for
 abbrev pub roomIn : Rows → ℕ

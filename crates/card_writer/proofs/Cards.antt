@@ -9,7 +9,7 @@ use lib.ListN.{length, drop, getD, length-append}
 use Rattle.laws.specs.Front.{front, list}
 use Rattle.laws.proofs.Front.{length-list}
 use Rattle.bits.specs.Bits.{bitsOf, bytesFor, withFiller, bytesOf, HasBits}
-use Rattle.bits.specs.Pens.{BitsPut, bitCount, freshPen}
+use Rattle.bits.specs.inside.Pens.{BitsPut, bitCount, freshPen}
 use Rattle.card.specs.Layout.{Meaning}
 use Rattle.card_writer.specs.Form.{headerBits, headerWidth, segmentBits, segmentWidth, segmentsBits, cardBits, cardBytes, cardSize}
 use Rattle.bits.specs.declared.pen.Pen.{Pen}

@@ -10,7 +10,7 @@ use Rattle.bits.specs.Bits.{bitsOf, numberOf, bitsOfBytes, bytesFor}
 use Rattle.card.specs.Layout.{Meaning, HeaderFits, SegmentFits}
 use Rattle.card_writer.specs.Form.{headerBits, segmentWidth, segmentBits, segmentsBits, cardBits, cardBytes}
 use Rattle.card.specs.Rules.{cardSegment}
-use Rattle.card_writer.specs.Writing.{OneMeaningOneCard}
+use Rattle.card_writer.specs.OneCard.{OneMeaningOneCard}
 use Rattle.card.specs.declared.layout.Layout.{Layout}
 use Rattle.card.specs.declared.layout.Header.{Header}
 use Rattle.card.specs.declared.layout.Segment.{Segment}

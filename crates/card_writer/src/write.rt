@@ -2,10 +2,10 @@
 ghost use mathlib.Core.Path.{_≡_};
 ghost use lib.ListN.{length};
 ghost use Rattle.laws.specs.Front.{front};
-ghost use Rattle.bits.specs.Pens.{BitsPut};
+ghost use Rattle.bits.specs.inside.Pens.{BitsPut};
 ghost use Rattle.card_writer.specs.Form.{segmentsBits, cardSize, cardBytes};
 ghost use Rattle.card_judge.specs.Analysed.{packedSegments, meaning};
-ghost use Rattle.card_writer.specs.Writing.{CanPutSegments, CanWrite};
+ghost use Rattle.card_writer.specs.inside.Writing.{CanPutSegments, CanWrite};
 use crate::fields::card_size;
 use crate::fields::header_number;
 use crate::fields::segment_number;

@@ -10,7 +10,7 @@ use Rattle.laws.specs.Values.{plusZero}
 use Rattle.keys.specs.Numbers.{keyNumber}
 use Rattle.key_choice.specs.declared.classify.Classified.{Classified}
 use Rattle.scores.specs.Scores.{scoresOf}
-use Rattle.key_choice.specs.Classify.{confidenceOf, classifiedOf}
+use Rattle.key_choice.specs.Classify.{certaintyOf, classifiedOf}
 use Rattle.chroma_calls.specs.declared.ScoresResult.{ScoresResult}
 use Rattle.chroma_calls.specs.declared.KeyResult.{KeyResult}
 
@@ -35,7 +35,7 @@ scoresCall chroma places =
 -- ---- the key
 -- the answer for a classified chroma
 unfoldable pub judged : Classified → KeyResult
-judged c = record { refusal = 0; key = keyNumber (c .key); best = c .best; second = c .second; confidence = confidenceOf (c .best) (c .second) }
+judged c = record { refusal = 0; key = keyNumber (c .key); best = c .best; second = c .second; confidence = certaintyOf c }
 
 -- 18 for a chroma not of 12 numbers, with no key, which is 24, and zeros
 abbrev pub noChroma : KeyResult

@@ -12,8 +12,8 @@ use Rattle.laws.proofs.Turns.{turns-part}
 use Rattle.laws.proofs.Front.{getD-list}
 use Rattle.correlations.specs.declared.lanes.Lanes.{Lanes}
 use Rattle.correlations.specs.Correlation.{meanOf, deviation, rotated, sumsOf, correlationOf}
-use Rattle.correlations.specs.Deviations.{deviationsOf, deviationEnergyTurn, deviationEnergy, backward, wheelOf}
-use Rattle.correlations.specs.Lanes.{four, productAdded, addedFour, lanesTurn, noLanes, lanesOf, quotientAt, quotientsOf, twelve, turnedOf}
+use Rattle.correlations.specs.inside.Deviations.{deviationsOf, deviationEnergyTurn, deviationEnergy, backward, wheelOf}
+use Rattle.correlations.specs.inside.Lanes.{four, productAdded, addedFour, lanesTurn, noLanes, lanesOf, quotientAt, quotientsOf, twelve, turnedOf}
 
 -- a deviation
 away-at : (values : List Float) (i : ℕ) → i < 12 → getD (deviationsOf values) i nan ≡ deviation values (meanOf values) i

@@ -29,8 +29,8 @@ summed a b = turns (λ (i : ℕ) (sum : Float). add binary32 sum (mul binary32 (
 -- of chroma and profile, and of either with itself; the profile's squares are summed in rotated order too
 unfoldable pub sumsOf : List Float → List Float → ℕ → Float → Float → Sums
 sumsOf chroma profile root mean profileMean =
-    let a = deviation chroma mean in
-    let b = λ (i : ℕ). deviation profile profileMean (rotated root i) in
+    let a : ℕ → Float = deviation chroma mean in
+    let b : ℕ → Float = λ (i : ℕ). deviation profile profileMean (rotated root i) in
     record { products = summed a b; «chroma_energy» = summed a a; «profile_energy» = summed b b }
 
 -- the products over the root of both squares, which is held up by epsilon

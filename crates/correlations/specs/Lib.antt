@@ -1,3 +1,2 @@
 pub mod Correlation
-pub mod Deviations
-pub mod Lanes
+pub mod inside

@@ -1,7 +1,7 @@
 // How well a chroma follows a key profile from each root up.
 ghost use mathlib.Core.Path.{_≡_};
 ghost use Rattle.correlations.specs.Correlation.{quotientOf};
-ghost use Rattle.correlations.specs.Lanes.{lanesOf, quotientsOf, turnedOf};
+ghost use Rattle.correlations.specs.inside.Lanes.{lanesOf, quotientsOf, turnedOf};
 use crate::lanes::Four;
 use crate::lanes::Lanes;
 use crate::lanes::sum_lanes;

@@ -1,6 +1,6 @@
 // Deviations of twelve values from their mean, what all correlations with them share.
 ghost use mathlib.Core.Path.{_≡_};
-ghost use Rattle.correlations.specs.Deviations.{deviationsOf, deviationEnergy, wheelOf};
+ghost use Rattle.correlations.specs.inside.Deviations.{deviationsOf, deviationEnergy, wheelOf};
 use numbers::twelve::sum_of_twelve;
 
 // The deviations from the mean.

@@ -1,7 +1,7 @@
 // The sums of four correlations side by side, so that no sum waits for another.
 ghost use mathlib.Core.Path.{_≡_};
 ghost use Prim.Native.Nat.{_≤_};
-ghost use Rattle.correlations.specs.Lanes.{alike, fourAt, addedFour, lanesOf};
+ghost use Rattle.correlations.specs.inside.Lanes.{alike, fourAt, addedFour, lanesOf};
 
 // One value for each of four roots upward.
 pub struct Four {

@@ -1,6 +1,6 @@
 -- A frame further on has a later middle; neither a whole number's float falls as the number grows, nor its quotient by the rate.
 use Prim.Native.Nat.{ℕ, zero, suc, _+_, _*_, _<_, _≤_}
-use mathlib.Core.Path.{_≡_, sym, ap, ap₂, subst₂, _∙_}
+use mathlib.Core.Path.{_≡_, sym, ap₂, subst₂, _∙_}
 use mathlib.Core.Bool.{false}
 use mathlib.Core.List.{List, [], _∷_, _++_, map}
 use native.Mathlib.Nat.{not-suc-le-zero, mul-le-mul-right}

@@ -14,14 +14,15 @@ use Rattle.laws.specs.First.{first}
 use Rattle.laws.proofs.First.{first-start, first-again, first-out, first-end}
 use Rattle.laws.proofs.Column.{Column, column-start, column-more}
 use Rattle.calls.specs.Call.{Call}
-use Rattle.calls.specs.Rows.{Rows, rows}
+use Rattle.calls.specs.Rows.{Rows}
+use Rattle.calls.specs.inside.Parts.{rows}
 use Rattle.goertzel.specs.Goertzel.{goertzelOf}
 use Rattle.goertzel.specs.inside.Rows.{goertzelRows}
 use Rattle.goertzel.proofs.Alone.{goertzel-by-rows}
 use Rattle.constant_q.specs.ConstantQ.{constantQOf}
 use Rattle.constant_q.specs.inside.Powers.{constantQRows}
 use Rattle.constant_q.proofs.Rows.{constant-q-by-rows}
-use Rattle.blocks.specs.Stock.{Centred, Tuned, Stock, HandedOut}
+use Rattle.blocks.specs.inside.Stock.{Centred, Tuned, Stock, HandedOut}
 use Rattle.blocks.specs.declared.stock.Held.{Held}
 use Rattle.blocks.specs.declared.stock.Handed.{Handed}
 use Rattle.one_frame.specs.Frame.{loud, middleOf, rowFrom, rowOf, whole}

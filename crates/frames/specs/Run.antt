@@ -6,7 +6,7 @@ use lib.Ieee.{Float}
 use Rattle.laws.specs.Front.{front}
 use Rattle.laws.specs.First.{first}
 use Rattle.calls.specs.Call.{Call}
-use Rattle.calls.specs.Rows.{Rows, rows}
+use Rattle.calls.specs.Rows.{Rows}
 use Rattle.one_frame.specs.Frame.{frameEnergy, loud, rowOf, whole}
 use Rattle.one_frame.specs.declared.frame.Row.{Row}
 
@@ -34,7 +34,8 @@ stopAt c positions = first (notFiniteAt c) positions 0
 -- the lent rows once those found stand in the first places
 abbrev pub holdingFrames : List Row → Rows → Rows
 holdingFrames found before =
-    rows
-    (front (map (λ (r : Row). r .centre) found) (before .centres))
-    (front (map (λ (r : Row). r .values) found) (before .values))
-    (front (map (λ (r : Row). r .energy) found) (before .energies))
+    record {
+      centres = front (map (λ (r : Row). r .centre) found) (before .centres);
+      values = front (map (λ (r : Row). r .values) found) (before .values);
+      energies = front (map (λ (r : Row). r .energy) found) (before .energies);
+    }

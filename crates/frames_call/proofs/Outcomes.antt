@@ -16,7 +16,7 @@ use Rattle.frames.specs.Run.{loudBefore, holdingFrames, stopAt}
 use Rattle.frames.specs.inside.Rows.{Run, ran, runOf}
 use Rattle.frames.specs.declared.run.Filled.{Filled}
 use Rattle.frames.specs.declared.run.Filled.the-variants.{All, NotFinite}
-use Rattle.frames_call.specs.FramesOnly.{framesResult, FramesOutcome, framesOutcome, framesFound, framesAfter, framesTable, framesOnly}
+use Rattle.frames_call.specs.FramesOnly.{framesResult, framesOutcome, framesFound, framesAfter, framesTable, framesOnly}
 use Rattle.frames_call.specs.inside.Finished.{filledResult}
 use Rattle.frames_call.specs.declared.FramesResult.{FramesResult}
 

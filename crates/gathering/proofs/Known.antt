@@ -16,7 +16,7 @@ use Rattle.laws.proofs.First.{first-before, first-or-end, first-within, first-f
 use Rattle.laws.proofs.Order.{lt→le, le-trans, lt-of-le-of-lt}
 use Rattle.laws.proofs.Turns.{turns-start, turns-between}
 use Rattle.gathering.specs.Gather.{Heard, heard, withFrame, noneGathered, gatherTurn, gatheredOf, gatheredAfter, inWindow}
-use Rattle.gathering.specs.Ahead.{rises, aheadOf, isFrom, firstFrom, skippedTo, isPast, stopOf, Known}
+use Rattle.gathering.specs.inside.Ahead.{rises, aheadOf, isFrom, firstFrom, skippedTo, isPast, stopOf, Known}
 use Rattle.gathering.specs.declared.ahead.Ahead.{Ahead}
 use Rattle.gathering.specs.declared.gather.Gathered.{Gathered}
 

@@ -2,7 +2,7 @@
 ghost use mathlib.Core.Path.{_≡_};
 ghost use Prim.Native.Nat.{_≤_};
 ghost use lib.ListN.{length};
-ghost use Rattle.gathering.specs.Ahead.{rises, aheadOf, firstFrom, skippedTo, stopOf};
+ghost use Rattle.gathering.specs.inside.Ahead.{rises, aheadOf, firstFrom, skippedTo, stopOf};
 
 // So many frames, the first that a window may count, and whether no centre is below the one before it.
 pub struct Ahead {

@@ -3,7 +3,7 @@ ghost use mathlib.Core.Path.{_≡_};
 ghost use Prim.Native.Nat.{_+_, _^_, _<_, _≤_};
 ghost use lib.ListN.{length};
 ghost use Rattle.gathering.specs.Gather.{heard, withFrame, gatheredOf, gatheredAfter, inWindow};
-ghost use Rattle.gathering.specs.Ahead.{Known};
+ghost use Rattle.gathering.specs.inside.Ahead.{Known};
 use crate::ahead::Ahead;
 use crate::ahead::find_stop;
 use numbers::twelve::add_twelve;

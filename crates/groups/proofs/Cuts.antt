@@ -19,7 +19,7 @@ use Rattle.timeline.specs.declared.segment.Segment.{Segment}
 use Rattle.timeline.proofs.Segments.{Holds, holds-start, holds-more, holds-all}
 use Rattle.splits.specs.Splits.{splits, borderOf}
 use Rattle.groups.specs.Groups.{between, estimateAt, groupsOf}
-use Rattle.groups.specs.Written.{grouped}
+use Rattle.groups.specs.inside.Written.{grouped}
 use Rattle.groups.proofs.Loop.{groupFrom, Cutting, cutting, cutTurn, closed, groups-loop}
 use Rattle.groups.proofs.Parts.{group-in-rows}
 

@@ -14,7 +14,7 @@ use Rattle.timeline.specs.Estimates.{EstimateRows}
 use Rattle.timeline.specs.inside.Estimates.{Numbered, Found, estimateIn, estimatesIn}
 use Rattle.timeline.specs.declared.estimate.Estimate.{Estimate}
 use Rattle.groups.specs.Groups.{border, between, numbersOf, groupOf}
-use Rattle.groups.specs.Written.{grouped}
+use Rattle.groups.specs.inside.Written.{grouped}
 
 -- what stands behind a list does not matter to a part of it
 part-of-first : {A : Type 0} (xs ys : List A) (from to : ℕ) → from ≤ to → to ≤ length xs → between (xs ++ ys) from to ≡ between xs from to

@@ -1,3 +1,3 @@
 pub mod Groups
-pub mod Written
 pub mod Tiled
+pub mod inside

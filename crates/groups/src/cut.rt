@@ -8,7 +8,7 @@ ghost use Rattle.timeline.specs.inside.Estimates.{Numbered, Found, estimatesIn}
 ghost use Rattle.timeline.specs.Segments.{lentSegments};
 ghost use Rattle.timeline.specs.inside.Segments.{Room, putSegment, filledRows, standing};
 ghost use Rattle.groups.specs.Groups.{meanConfidence, groupsOf};
-ghost use Rattle.groups.specs.Written.{grouped, group, groupIn};
+ghost use Rattle.groups.specs.inside.Written.{grouped, group, groupIn};
 use majorities::majority::majority_key;
 use splits::split::border_in_rows;
 use splits::split::is_split;

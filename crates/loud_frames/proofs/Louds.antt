@@ -23,7 +23,7 @@ use Rattle.verdicts.specs.declared.verdict.Verdict.{Verdict}
 use Rattle.reports.specs.Report.{Report, reportOf}
 use Rattle.reports.specs.inside.Rows.{Reported, reported, reportedIn}
 use Rattle.reports.proofs.Reports.{report-alike}
-use Rattle.loud_frames.specs.Loud.{AnalyseOutcome, analyseOutcome, reportLeft, chromasOf, heardOf, loudAnalysed}
+use Rattle.loud_frames.specs.Loud.{AnalyseOutcome, analyseOutcome, chromasOf, heardOf, loudAnalysed}
 use Rattle.loud_frames.specs.inside.Rows.{framesIn, heardIn}
 use Rattle.loud_frames.proofs.Read.{long, medians-same, verdict-same, heard-same}
 

@@ -7,7 +7,7 @@ use lib.ListN.{length, getD, take}
 use lib.Seq.{length-take-le}
 use lib.Ieee.{Float, nan, binary32}
 use Rattle.ranks.specs.Sorted.{sortedOf}
-use Rattle.ranks.specs.Search.{keyAtRank, valueOfKey}
+use Rattle.ranks.specs.inside.Search.{keyAtRank, valueOfKey}
 use Rattle.ranks.proofs.Count.{each-at}
 use Rattle.ranks.proofs.Sorted.{length-sorted, each-sorted, InSingle}
 use Rattle.ranks.proofs.Keys.{value-back}

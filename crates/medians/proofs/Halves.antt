@@ -4,7 +4,7 @@ use Prim.Native.Nat.{ℕ, _+_, _-_, _≤_, _<_}
 use native.Mathlib.Omega.{arith}
 use mathlib.Core.List.{List}
 use lib.Ieee.{Float}
-use Rattle.ranks.specs.Search.{countBelow, SoughtIn}
+use Rattle.ranks.specs.inside.Search.{countBelow, SoughtIn}
 
 module _ (values : List Float) (n rank key width half : ℕ) (now : SoughtIn values n rank key width) (some : 0 < half) (less : half < width) where
   pub upper-part : countBelow values n (key + half) ≤ rank → SoughtIn values n rank (key + half) (width - half)

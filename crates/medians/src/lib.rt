@@ -5,7 +5,7 @@ ghost use lib.ListN.{length, take, drop, replicate};
 ghost use Rattle.laws.specs.Front.{front};
 ghost use Rattle.laws.specs.Values.{plusZero};
 ghost use Rattle.medians.specs.Median.{medianOf};
-ghost use Rattle.ranks.specs.Search.{countBelow, keyAtRank, SoughtIn};
+ghost use Rattle.ranks.specs.inside.Search.{countBelow, keyAtRank, SoughtIn};
 use numbers::single::order_key;
 use ranks::narrowing::Sought;
 use ranks::narrowing::narrow;

@@ -4,7 +4,7 @@ use mathlib.Core.Bool.{Bool, cond, _&&_}
 use mathlib.Core.List.{List}
 use lib.ListN.{getD}
 use lib.IntN.{pos}
-use lib.Ieee.{Float, nan, binary32, binary64, ofBits, ofInt, add, mul, div, lt}
+use lib.Ieee.{Float, nan, binary32, ofBits, ofInt, add, mul, div, lt}
 use lib.Ieee.Scale.{finite}
 use Rattle.laws.specs.Every.{everyEntry}
 use Rattle.laws.specs.Turns.{turns}

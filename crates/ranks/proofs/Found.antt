@@ -13,7 +13,7 @@ use Rattle.laws.specs.Order.{orderKey}
 use Rattle.laws.specs.Turns.{turns}
 use Rattle.laws.proofs.Turns.{turns-last}
 use Rattle.ranks.specs.Sorted.{sortedOf}
-use Rattle.ranks.specs.Search.{countTurn, countBelow, keyAtRank, SoughtIn}
+use Rattle.ranks.specs.inside.Search.{countTurn, countBelow, keyAtRank, SoughtIn}
 use Rattle.ranks.proofs.Count.{keysBelow, Each, each-none, each-more, below-append, below-all, below-zero, key-at}
 use Rattle.ranks.proofs.Sorted.{below-sorted, length-sorted, ascending-sorted, InSingle}
 use Rattle.ranks.proofs.Keys.{key-lt}

@@ -13,8 +13,8 @@ use borrow.Author.Tests.{lt-ltb, le-ltb}
 use Rattle.laws.specs.Order.{orderKey}
 use Rattle.laws.proofs.Cases.{lt-or-ge, by-test}
 use Rattle.ranks.specs.Sorted.{sortedOf}
-use Rattle.ranks.specs.Search.{countBelow, keyAtRank, SoughtIn}
-use Rattle.ranks.specs.Narrow.{divides, kept, within, Counted, Narrowed}
+use Rattle.ranks.specs.inside.Search.{countBelow, keyAtRank, SoughtIn}
+use Rattle.ranks.specs.inside.Narrow.{divides, kept, within, Counted, Narrowed}
 use Rattle.ranks.proofs.Count.{keysBelow, Each, each-none, each-more, below-all, below-mono, key-at, place-least, place-most, not-beyond}
 use Rattle.ranks.proofs.Sorted.{below-sorted, length-sorted, ascending-sorted, InSingle}
 use Rattle.ranks.proofs.Found.{count-below-is, each-take}

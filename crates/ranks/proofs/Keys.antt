@@ -10,7 +10,7 @@ use borrow.Author.Tests.{lt-ltb, le-ltb}
 use Rattle.laws.specs.Order.{orderKey}
 use Rattle.laws.proofs.Cases.{by-test}
 use Rattle.laws.proofs.Signs.{nan-is}
-use Rattle.ranks.specs.Search.{patternOfKey, valueOfKey}
+use Rattle.ranks.specs.inside.Search.{patternOfKey, valueOfKey}
 
 top-above-zero : (f : Format) → 0 < top f
 top-above-zero binary32 = lit< tt

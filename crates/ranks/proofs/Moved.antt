@@ -9,7 +9,7 @@ use native.Mathlib.Omega.{arith}
 use lib.ListN.{length, getD, set, take, drop, length-set}
 use lib.Seq.{take-suc, take-suc-set, take-set-le, drop-set-lt, getD-drop, drop-drop, length-take-le}
 use lib.Ieee.{Float, nan}
-use Rattle.ranks.specs.Narrow.{kept}
+use Rattle.ranks.specs.inside.Narrow.{kept}
 use Rattle.ranks.proofs.Kept.{kept-append, kept-one, kept-none}
 
 -- after i values, of which c are kept

@@ -18,8 +18,8 @@ use Rattle.laws.proofs.Zero.{plusZero-least}
 use Rattle.laws.proofs.Signs.{kind, clear-is, negative-is}
 use Rattle.laws.proofs.Turns.{turns-last}
 use Rattle.laws.proofs.Total.{total-order}
-use Rattle.ranks.specs.Search.{countTurn, countBelow}
-use Rattle.ranks.specs.Narrow.{divides, underTurn, countUnder}
+use Rattle.ranks.specs.inside.Search.{countTurn, countBelow}
+use Rattle.ranks.specs.inside.Narrow.{divides, underTurn, countUnder}
 use Rattle.ranks.proofs.Sorted.{InSingle}
 
 is-not : (b : Bool) → T (not b) → b ≡ false

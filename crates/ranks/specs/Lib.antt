@@ -1,3 +1,2 @@
 pub mod Sorted
-pub mod Search
-pub mod Narrow
+pub mod inside

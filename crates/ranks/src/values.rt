@@ -1,7 +1,7 @@
 // The value with an order key.
 ghost use mathlib.Core.Path.{_≡_};
 ghost use lib.Ieee.{binary32};
-ghost use Rattle.ranks.specs.Search.{patternOfKey, valueOfKey};
+ghost use Rattle.ranks.specs.inside.Search.{patternOfKey, valueOfKey};
 use numbers::single::from_pattern;
 
 // The pattern of the value with an order key.

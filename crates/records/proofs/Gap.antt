@@ -9,7 +9,7 @@ use lib.ListN.{length, getD, set, length-set, take, drop}
 use Rattle.timeline.specs.Segments.{emptied, joined, segmentAt}
 use Rattle.timeline.specs.declared.segment.Segment.{Segment}
 use Rattle.shortening.specs.Shorten.{joinAt}
-use Rattle.records.specs.Steps.{movedDown, copiedDown, joinedRecords}
+use Rattle.records.specs.inside.Steps.{movedDown, copiedDown, joinedRecords}
 use Rattle.shortening.proofs.Settles.{joinAt-first, joinAt-more}
 
 module _ {A : Type 0} where

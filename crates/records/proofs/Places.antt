@@ -17,7 +17,7 @@ use Rattle.laws.proofs.First.{first-start, first-again, first-out, first-end}
 use Rattle.timeline.specs.Segments.{emptied, seconds, short, segmentAt}
 use Rattle.timeline.specs.declared.segment.Segment.{Segment}
 use Rattle.shortening.specs.Shorten.{firstShort, keeper}
-use Rattle.records.specs.Steps.{placeAfter, keptPlace}
+use Rattle.records.specs.inside.Steps.{placeAfter, keptPlace}
 
 -- a record among the first ones
 pub among : (count i : ℕ) (l : List Segment) → i < count → count ≤ length l → segmentAt (take count l) i ≡ segmentAt l i

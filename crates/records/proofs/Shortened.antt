@@ -13,7 +13,7 @@ use Rattle.timeline.specs.declared.segment.Segment.{Segment}
 use Rattle.shortening.specs.Shorten.{firstShort, keeper, joinAt, joinShort, unsettled, shortenedOf, leftIn}
 use Rattle.shortening.proofs.Settles.{one-more, firstShort-within, keeper-within, joinAt-length, joinShort-length, shortened-join, to-join, few-settled, long-settled, shortened-few, left-long, stays}
 use Rattle.records.specs.Records.{Left, left, shortenedIn}
-use Rattle.records.specs.Steps.{joinedRecords}
+use Rattle.records.specs.inside.Steps.{joinedRecords}
 use Rattle.records.proofs.Gap.{records-join}
 
 -- these segments shortened in front of others

@@ -22,7 +22,7 @@ use Rattle.timeline.specs.Segments.{emptied, short, joined}
 use Rattle.timeline.proofs.segment.Segment as T
 use Rattle.timeline.proofs.segment.Segment.Laws as T′
 use Rattle.shortening.specs.Shorten.{firstShort, keeper}
-use Rattle.records.specs.Steps.{movedDown, copiedDown, joinedAt, joinedRecords, placeAfter, keptPlace}
+use Rattle.records.specs.inside.Steps.{movedDown, copiedDown, joinedAt, joinedRecords, placeAfter, keptPlace}
 use Rattle.records.specs.Records.{left, shortenedIn}
 use Rattle.walks.proofs.Plain.{Plain, number}
 use Rattle.walks.proofs.Rows.{Task, Change}

@@ -1,3 +1,3 @@
 pub mod Records
-pub mod Steps
 pub mod Same
+pub mod inside

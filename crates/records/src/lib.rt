@@ -6,7 +6,7 @@ ghost use lib.ListN.{length, set, take};
 ghost use Rattle.timeline.specs.Segments.{emptied, segmentAt};
 ghost use Rattle.shortening.specs.Shorten.{firstShort, keeper};
 ghost use Rattle.records.specs.Records.{left, shortenedIn};
-ghost use Rattle.records.specs.Steps.{movedDown, copiedDown, joinedAt, joinedRecords, placeAfter, keptPlace};
+ghost use Rattle.records.specs.inside.Steps.{movedDown, copiedDown, joinedAt, joinedRecords, placeAfter, keptPlace};
 use timeline::segment::Segment;
 use timeline::segment::emptied_segment;
 use timeline::segment::is_short;

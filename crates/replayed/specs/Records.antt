@@ -10,7 +10,7 @@ use Rattle.laws.specs.Front.{list}
 use Rattle.laws.specs.Order.{orderKey}
 use Rattle.keys.specs.Numbers.{keyNumber}
 use Rattle.key_choice.specs.declared.classify.Classified.{Classified}
-use Rattle.key_choice.specs.Classify.{confidenceOf, classifiedOf}
+use Rattle.key_choice.specs.Classify.{certaintyOf, classifiedOf}
 
 -- the number of 32 bits that starts at a byte
 unfoldable pub wordAt : List ℕ → ℕ → ℕ
@@ -42,7 +42,7 @@ sameKey bytes start c =
     eqb (keyNumber (c .key)) (wordAt bytes (start + 144))
     && sameValue (c .best) (valueAt bytes (start + 148))
     && sameValue (c .second) (valueAt bytes (start + 152))
-    && sameValue (confidenceOf (c .best) (c .second)) (valueAt bytes (start + 156))
+    && sameValue (certaintyOf c) (valueAt bytes (start + 156))
 
 -- whether the record's answers are those of a classified chroma
 abbrev pub judges : List ℕ → ℕ → Classified → Bool

@@ -5,7 +5,8 @@ use native.Mathlib.Omega.{arith}
 use mathlib.Core.List.{List}
 use lib.ListN.{length}
 use lib.Ieee.{Float}
-use Rattle.calls.specs.Call.{Call, callOf}
+use Rattle.calls.specs.Call.{Call}
+use Rattle.calls.specs.inside.Parts.{callOf}
 use Rattle.calls.specs.declared.Settings.{Settings}
 use Rattle.calls.specs.declared.SheetHead.{SheetHead}
 use Rattle.analysis.specs.Analyse.{analysed}

@@ -6,9 +6,9 @@ use lib.ListN.{length, replicate}
 use lib.Ieee.{Float}
 use Rattle.laws.specs.Turns.{turns}
 use Rattle.laws.specs.Values.{plusZero}
-use Rattle.calls.specs.Rows.{rows}
-use Rattle.timeline.specs.Estimates.{estimateRows}
-use Rattle.timeline.specs.Segments.{segmentRows}
+use Rattle.calls.specs.inside.Parts.{rows}
+use Rattle.timeline.specs.inside.Estimates.{estimateRows}
+use Rattle.timeline.specs.inside.Segments.{segmentRows}
 use Rattle.rooms.specs.Lent.{Lent, lent}
 use Rattle.analysis.specs.Analyse.{analysed}
 use Rattle.stored_analyses.specs.Stored.{callAt}

@@ -6,7 +6,7 @@ use Prim.Native.Nat.{ℕ}
 use lib.ListN.{length}
 use Rattle.calls.specs.declared.Settings.{Settings}
 use Rattle.timeline.specs.Estimates.{EstimateRows, holdingEstimates}
-use Rattle.timeline.specs.Segments.{SegmentRows, segmentsIn, holdingSegments}
+use Rattle.timeline.specs.Segments.{SegmentRows, segmentsIn}
 use Rattle.timeline.specs.declared.estimate.Estimate.{Estimate}
 use Rattle.timeline.specs.declared.segment.Segment.{Segment}
 use Rattle.windows.specs.Span.{spanOf}

@@ -1,11 +1,10 @@
 -- The checks leave a hop of half a second at least and a duration within the longest track, so the starts spread and the budget suffices.
 use mathlib.Core.Path.{_≡_, refl, sym, subst}
-use mathlib.Core.Bool.{Bool, true, false, not}
+use mathlib.Core.Bool.{Bool, not}
 use Prim.Native.Nat.{ℕ}
-use native.Mathlib.Omega.{arith}
 use lib.Dec.{T, lit<}
 use lib.ListN.{length}
-use lib.Ieee.{Float, nan, inf, fin, binary64, le, lt, ofBits, round}
+use lib.Ieee.{Float, nan, inf, fin, binary64, le, ofBits, round}
 use lib.Ieee.Scale.{finite}
 use Rattle.laws.specs.Values.{aHalf, ordered}
 use Rattle.laws.specs.Convert.{parts}

@@ -6,7 +6,7 @@ use native.Mathlib.Nat.{lt-of-lt-of-le, le-of-eq, le-of-lt, zero-lt-suc, pow-suc
 use native.Mathlib.Omega.{arith}
 use lib.Dec.{T, leb, eqb, leb→le, nleb→lt, eqb→eq}
 use Rattle.roots.specs.Root.{wholeRoot, doubledRoot}
-use Rattle.roots.specs.Steps.{Floor}
+use Rattle.roots.specs.inside.Steps.{Floor}
 use Rattle.roots.proofs.Squares.{less-of-squares, root-below, root-from, next-square}
 
 -- ---- one digit more

@@ -5,7 +5,7 @@ use native.Mathlib.Nat.{le-trans, le-of-eq, le-of-lt, lt-of-lt-of-le, lt-suc-sel
 use native.Mathlib.Decide.{decLe}
 use native.Mathlib.Omega.{arith}
 use lib.Arith.{add-le-cancel-left}
-use Rattle.roots.specs.Steps.{Scaled, Guess}
+use Rattle.roots.specs.inside.Steps.{Scaled, Guess}
 use Rattle.roots.proofs.Squares.{root-from}
 
 -- a * b twice is at most a * a + b * b: at b = a + d the difference is d * d

@@ -12,7 +12,7 @@ use lib.Ieee.{Float, binary32, fits, lt}
 use lib.Ieee.Exact.{HasValue}
 use lib.Ieee.Positive.{num, den, den-pos, positive, value→cross, value-pos, first-pos}
 use Rattle.roots.specs.Root.{rootOf, rootOfUnits, wholeRoot}
-use Rattle.roots.specs.Steps.{Scaled, Floor, Nearest, Parts, Evened}
+use Rattle.roots.specs.inside.Steps.{Scaled, Floor, Nearest, Parts, Evened}
 use Rattle.roots.specs.Meaning.{twiceMiddle, NearestRoot, RootIsNearest}
 use Rattle.laws.specs.Values.{nonneg}
 use Rattle.laws.proofs.Nonneg.{positive→nonneg, lt→cross, cross→lt}

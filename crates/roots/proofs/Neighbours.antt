@@ -5,7 +5,7 @@ use native.Mathlib.Nat.{le-trans, le-of-eq, le-of-lt, le-antisymm, lt-of-lt-of-l
 use native.Mathlib.Decide.{decLe}
 use native.Mathlib.Omega.{arith}
 use lib.Pow.{pow-pos}
-use Rattle.roots.specs.Steps.{Scaled, Nearest}
+use Rattle.roots.specs.inside.Steps.{Scaled, Nearest}
 use Rattle.roots.proofs.Squares.{squares-less}
 use Rattle.roots.proofs.Rounded.{scaledUp, under-square, over-square, from-square, half-above, half-below}
 use Rattle.roots.proofs.Grid.{multiple}

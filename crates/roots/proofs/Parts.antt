@@ -11,7 +11,7 @@ use lib.Ieee.{binary32, fits, ofBits}
 use lib.Ieee.Bits.{ofBits-toBits}
 use lib.Ieee.Fits.{round-fits}
 use Rattle.roots.specs.Root.{doubledRoot, rootOfUnits}
-use Rattle.roots.specs.Steps.{Scaled, Nearest, Parts, Evened, RootOfParts}
+use Rattle.roots.specs.inside.Steps.{Scaled, Nearest, Parts, Evened, RootOfParts}
 use Rattle.roots.proofs.Rounded.{scaledUp, rounded-root}
 use Rattle.laws.proofs.Patterns.{bits-of-value, pattern-at}
 

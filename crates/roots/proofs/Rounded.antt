@@ -10,7 +10,7 @@ use lib.Ieee.{binary32, units}
 use lib.Ieee.Exact.{HasValue, units-val}
 use lib.Ieee.Nearest.{closest, closest-same}
 use Rattle.roots.specs.Root.{doubledRoot, rootOfUnits}
-use Rattle.roots.specs.Steps.{Scaled, Nearest}
+use Rattle.roots.specs.inside.Steps.{Scaled, Nearest}
 use Rattle.roots.proofs.Squares.{next-square}
 use Rattle.roots.proofs.Doubled.{doubled-below, doubled-from, doubled-above}
 use Rattle.laws.proofs.Closest.{closest-is, round-at}

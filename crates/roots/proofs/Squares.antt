@@ -3,7 +3,7 @@ use Prim.Native.Nat.{ℕ, zero, suc, _+_, _-_, _*_, _^_, _≤_, _<_, zero-le}
 use mathlib.Core.Path.{_≡_, sym, subst}
 use native.Mathlib.Nat.{le-of-lt, lt-of-le-of-lt, lt-of-not-le, not-le-of-lt, not-suc-le-zero, zero-lt-suc, mul-le-mul, mul-le-mul-left, mul-lt-mul-of-pos-right, mul-add, add-mul, mul-one, one-mul}
 use native.Mathlib.Omega.{arith}
-use Rattle.roots.specs.Steps.{Scaled, Floor, Nearest}
+use Rattle.roots.specs.inside.Steps.{Scaled, Floor, Nearest}
 
 pub less-of-squares : (a b : ℕ) → a * a < b * b → a < b
 less-of-squares a b h = lt-of-not-le (λ (g : b ≤ a). not-le-of-lt h (mul-le-mul g g))

@@ -5,7 +5,7 @@
 ghost use mathlib.Core.Path.{_≡_};
 ghost use Prim.Native.Nat.{_+_, _*_, _<_};
 ghost use Rattle.roots.specs.Root.{rootOf};
-ghost use Rattle.roots.specs.Steps.{Scaled, Guess, Floor, Nearest, Parts, Evened, RootOfParts, RootOfBits};
+ghost use Rattle.roots.specs.inside.Steps.{Scaled, Guess, Floor, Nearest, Parts, Evened, RootOfParts, RootOfBits};
 use numbers::single::is_nan;
 
 // A straight line on each half of the range, close to √n: measured within 1 %. No proof leans on how close.

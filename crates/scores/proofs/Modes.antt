@@ -11,11 +11,11 @@ use Rattle.laws.specs.Values.{plusZero}
 use Rattle.laws.proofs.Turns.{turns-part}
 use Rattle.laws.proofs.Front.{list-same, getD-list}
 use Rattle.correlations.specs.Correlation.{correlationOf}
-use Rattle.correlations.specs.Deviations.{deviationsOf, deviationEnergy, wheelOf}
-use Rattle.correlations.specs.Lanes.{turnedOf}
+use Rattle.correlations.specs.inside.Deviations.{deviationsOf, deviationEnergy, wheelOf}
+use Rattle.correlations.specs.inside.Lanes.{turnedOf}
 use Rattle.scores.specs.Profiles.{profileAt}
 use Rattle.numbers.specs.Sum.{addedEach}
-use Rattle.scores.specs.Modes.{modeTurn, modeSums, noModeSums}
+use Rattle.scores.specs.inside.Modes.{modeTurn, modeSums, noModeSums}
 use Rattle.scores.specs.Scores.{scoreTurn, scoreOf, scoreAt, scoresOf}
 use Rattle.correlations.proofs.Turned.{turned-is}
 

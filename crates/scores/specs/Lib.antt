@@ -1,3 +1,3 @@
 pub mod Profiles
-pub mod Modes
 pub mod Scores
+pub mod inside

@@ -2,8 +2,8 @@
 ghost use mathlib.Core.Path.{_≡_};
 ghost use Prim.Native.Nat.{_<_};
 ghost use Rattle.scores.specs.Profiles.{profileAt};
-ghost use Rattle.correlations.specs.Deviations.{wheelOf};
-ghost use Rattle.scores.specs.Modes.{modeSums};
+ghost use Rattle.correlations.specs.inside.Deviations.{wheelOf};
+ghost use Rattle.scores.specs.inside.Modes.{modeSums};
 ghost use Rattle.scores.specs.Scores.{scoresOf};
 use crate::profiles::PROFILES;
 use correlations::correlation::correlations;

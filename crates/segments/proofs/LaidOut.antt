@@ -1,5 +1,5 @@
 -- The estimates of the windows that are passed have centres that rise, so their segments are laid out; and these read back from their rows as they were shortened.
-use mathlib.Core.Path.{_≡_, refl, sym, ap, subst, _∙_}
+use mathlib.Core.Path.{_≡_, sym, ap, subst, _∙_}
 use mathlib.Core.Bool.{Bool, true, false, cond}
 use mathlib.Core.List.{List, _++_}
 use Prim.Native.Nat.{ℕ, _+_, _-_, _<_, _≤_}
@@ -17,7 +17,6 @@ use Rattle.timeline.proofs.Segments.{segment-there, segments-read-back}
 use Rattle.windows.specs.Span.{brief, budgetFor, windowsWithin, windowsOf}
 use Rattle.calls.specs.Call.{longestTrack}
 use Rattle.windows.specs.Run.{estimatesBefore, windowsPassed}
-use Rattle.windows.specs.Rising.{Timed}
 use Rattle.windows.specs.declared.span.Span.{Span}
 use Rattle.windows.proofs.Found.{estimates-few}
 use Rattle.windows.proofs.Rising.{centres-rise}

@@ -20,7 +20,7 @@ use Rattle.timeline.specs.declared.estimate.Estimate.{Estimate}
 use Rattle.timeline.proofs.Estimates.{rows-numbered, rows-read-back}
 use Rattle.windows.specs.Span.{windowsOf}
 use Rattle.gathering.specs.Gather.{Heard}
-use Rattle.windows.specs.Run.{estimatesBefore, stuckAt, halts, windowsPassed, estimatesOf}
+use Rattle.windows.specs.Run.{stuckAt, halts, windowsPassed, estimatesOf}
 use Rattle.windows.specs.inside.Rows.{Swept, swept, sweptOf, Ready}
 use Rattle.windows.specs.declared.span.Span.{Span}
 use Rattle.windows.specs.declared.run.Estimated.{Estimated}

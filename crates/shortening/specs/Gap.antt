@@ -6,8 +6,8 @@ use lib.ListN.{take, drop, replicate}
 use lib.Dec.{eqb}
 use lib.Ieee.{Float, le}
 use Rattle.keys.specs.Numbers.{keyNumber}
-use Rattle.timeline.specs.Segments.{emptied, seconds, short, joined, SegmentRows, segmentRows, segmentIn}
-use Rattle.timeline.specs.inside.Segments.{putSegment, FilledRows, filledRows}
+use Rattle.timeline.specs.Segments.{emptied, seconds, short, joined, SegmentRows, segmentIn}
+use Rattle.timeline.specs.inside.Segments.{segmentRows, putSegment, FilledRows, filledRows}
 
 -- the last of those looked at joins the one before it rather than the next one
 unfoldable pub prefersBack : ℕ → ℕ → ℕ → SegmentRows → Bool

@@ -11,7 +11,8 @@ use Rattle.laws.specs.Values.{plusZero, one, aHalf}
 use Rattle.keys.specs.Numbers.{keyNumber, keyAt, sameKey}
 use Rattle.timeline.specs.declared.estimate.Estimate.{Estimate}
 use Rattle.timeline.specs.declared.segment.Segment.{Segment}
-use Rattle.timeline.specs.Segments.{segment, emptied, segmentRows}
+use Rattle.timeline.specs.Segments.{segment, emptied}
+use Rattle.timeline.specs.inside.Segments.{segmentRows}
 use Rattle.majorities.specs.Majority.{majorityOf}
 use Rattle.groups.specs.Groups.{groupsOf}
 use Rattle.shortening.specs.Shorten.{shortenedOf}

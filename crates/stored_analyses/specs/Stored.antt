@@ -3,7 +3,8 @@ use Prim.Native.Nat.{ℕ, _+_, _*_, _%_}
 use mathlib.Core.List.{List}
 use lib.Ieee.{Float}
 use Rattle.laws.specs.Front.{list}
-use Rattle.calls.specs.Call.{Sheet, Call, sheetOf}
+use Rattle.calls.specs.Call.{Sheet, Call}
+use Rattle.calls.specs.inside.Parts.{sheetOf}
 use Rattle.calls.specs.declared.Settings.{Settings}
 use Rattle.calls.specs.declared.SheetHead.{SheetHead}
 use Rattle.replayed.specs.Records.{wordAt, valueAt}

@@ -11,8 +11,8 @@ use Rattle.laws.proofs.Column.{Column, column-start, column-more, column-at}
 use Rattle.keys.specs.Numbers.{keyNumber}
 use Rattle.keys.proofs.Placed.{numbers-are-keys}
 use Rattle.timeline.specs.inside.Estimates.{Numbered}
-use Rattle.timeline.specs.Segments.{emptied, segmentAt, SegmentRows, segmentRows, segmentIn, segmentsIn, holdingSegments}
-use Rattle.timeline.specs.inside.Segments.{putSegment, Room}
+use Rattle.timeline.specs.Segments.{emptied, segmentAt, SegmentRows, segmentIn, segmentsIn, holdingSegments}
+use Rattle.timeline.specs.inside.Segments.{segmentRows, putSegment, Room}
 use Rattle.timeline.specs.declared.segment.Segment.{Segment}
 
 pub segment-there : (rows : SegmentRows) (count i : ℕ) → i < count → segmentAt (segmentsIn rows count) i ≡ segmentIn rows i

@@ -16,21 +16,18 @@ pub record EstimateRows : Type 0 where
   pub keys : List ℕ
   pub confidences : List Float
 
--- the same, from its parts
-abbrev pub estimateRows : List Float → List ℕ → List Float → EstimateRows
-estimateRows centres keys confidences = record { centres = centres; keys = keys; confidences = confidences }
-
 -- as a contract has it: what the references refer to
 abbrev pub lentEstimates : RefT (List Float) → RefT (List ℕ) → RefT (List Float) → EstimateRows
-lentEstimates centres keys confidences = estimateRows (now centres) (now keys) (now confidences)
+lentEstimates centres keys confidences = record { centres = now centres; keys = now keys; confidences = now confidences }
 
 -- the rows once those found stand in the first places
 abbrev pub holdingEstimates : List Estimate → EstimateRows → EstimateRows
 holdingEstimates found before =
-    estimateRows
-    (front (map (λ (e : Estimate). e .centre) found) (before .centres))
-    (front (map (λ (e : Estimate). keyNumber (e .key)) found) (before .keys))
-    (front (map (λ (e : Estimate). e .confidence) found) (before .confidences))
+    record {
+      centres = front (map (λ (e : Estimate). e .centre) found) (before .centres);
+      keys = front (map (λ (e : Estimate). keyNumber (e .key)) found) (before .keys);
+      confidences = front (map (λ (e : Estimate). e .confidence) found) (before .confidences);
+    }
 
 -- how many rows there are
 abbrev pub estimateRoom : EstimateRows → ℕ

@@ -44,22 +44,19 @@ pub record SegmentRows : Type 0 where
   pub keys : List ℕ
   pub confidences : List Float
 
--- the same, from its parts
-abbrev pub segmentRows : List Float → List Float → List ℕ → List Float → SegmentRows
-segmentRows starts ends keys confidences = record { starts = starts; ends = ends; keys = keys; confidences = confidences }
-
 -- as a contract has it: what the references refer to
 abbrev pub lentSegments : RefT (List Float) → RefT (List Float) → RefT (List ℕ) → RefT (List Float) → SegmentRows
-lentSegments starts ends keys confidences = segmentRows (now starts) (now ends) (now keys) (now confidences)
+lentSegments starts ends keys confidences = record { starts = now starts; ends = now ends; keys = now keys; confidences = now confidences }
 
 -- the rows once these segments stand in the first places
 abbrev pub holdingSegments : List Segment → SegmentRows → SegmentRows
 holdingSegments segments before =
-    segmentRows
-    (front (map (λ (s : Segment). s .start) segments) (before .starts))
-    (front (map (λ (s : Segment). s .end) segments) (before .ends))
-    (front (map (λ (s : Segment). keyNumber (s .key)) segments) (before .keys))
-    (front (map (λ (s : Segment). s .confidence) segments) (before .confidences))
+    record {
+      starts = front (map (λ (s : Segment). s .start) segments) (before .starts);
+      ends = front (map (λ (s : Segment). s .end) segments) (before .ends);
+      keys = front (map (λ (s : Segment). keyNumber (s .key)) segments) (before .keys);
+      confidences = front (map (λ (s : Segment). s .confidence) segments) (before .confidences);
+    }
 
 -- the segment in row i
 unfoldable pub segmentIn : SegmentRows → ℕ → Segment

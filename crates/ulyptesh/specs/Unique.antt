@@ -13,7 +13,6 @@ use Rattle.chroma_calls.specs.FromChroma.{ScoresOutcome, scoresCall, keyCall}
 use Rattle.frames_call.specs.FramesOnly.{FramesOutcome, framesOnly}
 use Rattle.card_judge.specs.Analysed.{Analysis}
 use Rattle.card_call.specs.Cards.{cardCall}
-use Rattle.loud_frames.specs.Loud.{AnalyseOutcome}
 use Rattle.ulyptesh.specs.Analysis.{Promised}
 
 -- any two outcomes that a promise allows are equal

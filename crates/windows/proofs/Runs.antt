@@ -14,8 +14,9 @@ use Rattle.laws.proofs.Column.{Column, column-start, column-more}
 use Rattle.keys.specs.Numbers.{keyNumber}
 use Rattle.windows.specs.Span.{startOf}
 use Rattle.gathering.specs.Gather.{Heard, heard}
-use Rattle.gathering.specs.Ahead.{aheadOf, skippedTo, Known}
-use Rattle.timeline.specs.Estimates.{EstimateRows, estimateRows, holdingEstimates}
+use Rattle.gathering.specs.inside.Ahead.{aheadOf, skippedTo, Known}
+use Rattle.timeline.specs.Estimates.{EstimateRows, holdingEstimates}
+use Rattle.timeline.specs.inside.Estimates.{estimateRows}
 use Rattle.windows.specs.Run.{estimateFrom, silent, estimatesBefore, stays, stuckAt}
 use Rattle.windows.specs.inside.Rows.{Written, wrote, windowWritten, swept, sweptTo, sweptOf, Ready}
 use Rattle.gathering.specs.declared.ahead.Ahead.{Ahead}

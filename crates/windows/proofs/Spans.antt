@@ -1,34 +1,30 @@
 -- The span of a track that passes the checks: whole numbers divide with one rounding, so the duration is no longer than the longest track.
-use mathlib.Core.Path.{_≡_, refl, sym, ap, subst, subst₂, _∙_}
-use mathlib.Core.Logic.{_⊎_, inl, inr}
-use mathlib.Core.Bool.{Bool, true, false, not, cond, true≢false}
+use mathlib.Core.Path.{_≡_, sym, ap, subst, subst₂, _∙_}
+use mathlib.Core.Bool.{Bool, true, false, cond}
 use Prim.Native.Nat.{ℕ, _+_, _*_, _^_, _<_, _≤_}
-use native.Mathlib.Nat.{pos-of-ne-zero, le-of-lt, mul-one, mul-comm, mul-assoc}
+use native.Mathlib.Nat.{le-of-lt, mul-one, mul-comm, mul-assoc}
 use native.Mathlib.Omega.{arith}
 use lib.Dec.{T, lit<, lit≤}
-use lib.Ieee.{Float, nan, inf, fin, Format, binary32, binary64, prec, add, div, lt, le, fits}
+use lib.Ieee.{Float, nan, inf, fin, Format, binary32, binary64, prec, div, lt, le, fits}
 use lib.Ieee.Scale.{finite, round-same}
 use lib.Ieee.Fits.{fits-widens, round-fits}
-use lib.Ieee.Bits.{is-true}
 use lib.Ieee.Exact.{HasValue}
 use lib.Ieee.Back.{round-whole}
 use lib.Ieee.Positive.{num, den, positive-of-value, value→cross}
 use Rattle.laws.specs.First.{first}
 use Rattle.laws.specs.Values.{plusZero, clear, nonneg, Modest}
 use Rattle.laws.specs.Convert.{parts}
-use Rattle.laws.proofs.First.{first-within, first-or-end}
-use Rattle.laws.proofs.Order.{lt→le, le-right, le-trans, lt-not-le, not-lt→le, apart-le}
-use Rattle.laws.proofs.Nonneg.{nonneg→clear, nonneg→ordered, clear→ordered, Rounds, rounds-clear, rounds-mono, div-rounds, add-clear}
+use Rattle.laws.proofs.First.{first-within}
+use Rattle.laws.proofs.Order.{lt→le, le-right, lt-not-le, apart-le}
+use Rattle.laws.proofs.Nonneg.{Rounds, rounds-clear, rounds-mono, div-rounds}
 use Rattle.laws.proofs.Held.{value-nonneg}
-use Rattle.laws.proofs.Zero.{plusZero-add, add-right}
 use Rattle.laws.proofs.Middle.{modest-under}
 use Rattle.laws.proofs.Parts.{whole-is, parts-rounds, parts-modest}
 use Rattle.calls.specs.declared.Settings.{Settings}
-use Rattle.windows.specs.Span.{spanOf, startOf, brief, endsAt, budgetFor, windowsWithin, windowsOf, rowsAsked}
+use Rattle.windows.specs.Span.{spanOf, brief, endsAt, windowsWithin, windowsOf, rowsAsked}
 use Rattle.calls.specs.Call.{secondsAt, longestTrack}
 use Rattle.windows.specs.Rising.{Timed}
 use Rattle.windows.specs.declared.span.Span.{Span}
-use Rattle.windows.proofs.Starts.{start-first}
 
 -- ---- how many windows
 -- no more windows than rows are asked for

@@ -11,12 +11,7 @@ use Rattle.windows.specs.declared.span.Span.{Span}
 
 -- window and hop of the settings, and the samples over the rate
 unfoldable pub spanOf : Settings → ℕ → Span
-spanOf s count =
-    record {
-      window = s .«local_window_seconds»;
-      hop = s .«local_hop_seconds»;
-      duration = secondsAt s count;
-    }
+spanOf s count = record { window = s .«local_window_seconds»; hop = s .«local_hop_seconds»; duration = secondsAt s count }
 
 -- shorter than a window and a hop: such a track is not cut into windows
 unfoldable pub brief : Span → Bool

@@ -3,7 +3,7 @@ ghost use mathlib.Core.Path.{_≡_};
 ghost use Prim.Native.Nat.{_+_, _<_, _≤_, _^_};
 ghost use lib.ListN.{length};
 ghost use Rattle.gathering.specs.Gather.{heard};
-ghost use Rattle.gathering.specs.Ahead.{Known};
+ghost use Rattle.gathering.specs.inside.Ahead.{Known};
 ghost use Rattle.timeline.specs.Estimates.{lentEstimates};
 ghost use Rattle.windows.specs.inside.Rows.{windowWritten, wrote, swept, sweptOf, Ready};
 use crate::estimate::estimate_of;

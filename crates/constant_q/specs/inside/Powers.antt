@@ -8,7 +8,8 @@ use lib.Ieee.{Float, nan}
 use Rattle.laws.specs.Front.{list}
 use Rattle.laws.specs.Turns.{turns}
 use Rattle.sheets.specs.Sheet.{joinedLength}
-use Rattle.calls.specs.Call.{Sheet, sheetOf}
+use Rattle.calls.specs.Call.{Sheet}
+use Rattle.calls.specs.inside.Parts.{sheetOf}
 use Rattle.filters.specs.Classes.{noSums, classAdded}
 use Rattle.constant_q.specs.ConstantQ.{coveredFrom, coveredCount, halfLeft}
 use Rattle.constant_q.specs.inside.Lanes.{lanePower}

@@ -5,7 +5,8 @@ use mathlib.Core.Bool.{cond}
 use lib.ListN.{length, set}
 use lib.Dec.{ltb}
 use Rattle.calls.specs.Call.{Call, positionsOf}
-use Rattle.calls.specs.Rows.{Rows, rows}
+use Rattle.calls.specs.Rows.{Rows}
+use Rattle.calls.specs.inside.Parts.{rows}
 use Rattle.sheets.specs.Sheet.{Formed}
 use Rattle.one_frame.specs.declared.frame.Row.{Row}
 use Rattle.frames.specs.Run.{loudBefore, holdingFrames, stopAt}

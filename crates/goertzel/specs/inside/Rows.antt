@@ -6,7 +6,8 @@ use denote.Ref.{RefT, now}
 use lib.Ieee.{Float, nan}
 use Rattle.laws.specs.Turns.{turns}
 use Rattle.laws.specs.Front.{front, list}
-use Rattle.calls.specs.Call.{Sheet, sheetOf}
+use Rattle.calls.specs.Call.{Sheet}
+use Rattle.calls.specs.inside.Parts.{sheetOf}
 use Rattle.filters.specs.Resonator.{steppedOf}
 use Rattle.filters.specs.declared.resonator.Delay.{Delay}
 use Rattle.filters.specs.declared.resonator.GoertzelRow.{GoertzelRow}

@@ -1,6 +1,6 @@
 -- A part of the keys goes in a turn, and the one at the rank stays.
 use native.Mathlib.Omega.{arith}
-use Rattle.ranks.specs.Search.{SoughtIn}
+use Rattle.ranks.specs.inside.Search.{SoughtIn}
 use Rattle.medians.proofs.Halves.{upper-part, lower-part}
 use Rattle.ranks.proofs.Found.{search-ends}
 use borrow.Author.Needs.{needs}

@@ -5,7 +5,7 @@ use native.Mathlib.Omega.{arith}
 use borrow.Author.Tests.{lt-ltb, le-ltb}
 use Rattle.laws.specs.Turns.{turns}
 use Rattle.laws.proofs.Turns.{turns-start, turns-again, turns-end}
-use Rattle.ranks.specs.Search.{countTurn, countBelow}
+use Rattle.ranks.specs.inside.Search.{countTurn, countBelow}
 use borrow.Author.Needs.{needs}
 use Rattle.medians.proofs.count_below.Statement.{statement}
 use Rattle.medians.proofs.count_below.Tie as tie

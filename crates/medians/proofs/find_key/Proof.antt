@@ -3,8 +3,8 @@ use mathlib.Core.Path.{_≡_, refl, _∙_}
 use Prim.Native.Nat.{_≤_, _-_}
 use native.Mathlib.Omega.{arith}
 use lib.ListN.{length}
-use Rattle.ranks.specs.Search.{SoughtIn}
-use Rattle.ranks.specs.Narrow.{Narrowed}
+use Rattle.ranks.specs.inside.Search.{SoughtIn}
+use Rattle.ranks.specs.inside.Narrow.{Narrowed}
 use Rattle.ranks.proofs.Found.{search-starts}
 use Rattle.ranks.proofs.Kept.{narrowed-same, narrowed-more}
 use borrow.Author.Needs.{needs}

@@ -6,7 +6,7 @@ use Rattle.walks.proofs.Rows as Rows
 use Rattle.walks.proofs.Values as Values
 use Rattle.timeline.specs.declared.segment.Segment.{Segment}
 use Rattle.timeline.specs.Segments.{emptied}
-use Rattle.records.specs.Steps.{copiedDown}
+use Rattle.records.specs.inside.Steps.{copiedDown}
 use Rattle.records.proofs.Gap.{Closing, closing-start, closing-more, closing-end}
 use Rattle.timeline.proofs.segment.emptied_segment.Symbol as emptied-segment-def
 use Rattle.timeline.proofs.segment.emptied_segment.Symbol.{name as #emptied-segment}

@@ -4,7 +4,7 @@ use Rattle.records.proofs.Tasks.{typed, R, element, Record-at, Put-reco
 use Rattle.walks.proofs.Rows as Rows
 use Rattle.walks.proofs.Looks as Looks
 use Rattle.timeline.specs.Segments.{segmentAt}
-use Rattle.records.specs.Steps.{copiedDown}
+use Rattle.records.specs.inside.Steps.{copiedDown}
 use Rattle.records.proofs.record_at.Symbol as record-at-def
 use Rattle.records.proofs.record_at.Symbol.{name as #record-at}
 use Rattle.records.proofs.record_at.Met as record-at-thm

@@ -5,7 +5,7 @@ use Rattle.walks.proofs.Rows as Rows
 use Rattle.walks.proofs.Looks as Looks
 use Rattle.walks.proofs.Values as Values
 use Rattle.timeline.specs.Segments.{segmentAt, joined}
-use Rattle.records.specs.Steps.{joinedAt}
+use Rattle.records.specs.inside.Steps.{joinedAt}
 use Rattle.records.proofs.record_at.Symbol as record-at-def
 use Rattle.records.proofs.record_at.Symbol.{name as #record-at}
 use Rattle.records.proofs.record_at.Met as record-at-thm

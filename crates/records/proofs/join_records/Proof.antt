@@ -2,7 +2,7 @@
 use Rattle.walks.proofs.Walk.{refl, _+_, _<_, _^_, arith, [], _∷_, length, URA, fullShare, w64, vunit, vint, Heap, WpFn, Tables, Atoms, givenOf, tables, tablesOf, Given, ‵, _$_, _∵_, !, qed, look, init, lit, unit-lit, of-opd, bin, params1, pass1, pass0, fmOf, sliceVal, row, locals, var, vars2, vars3, relends, sets, lands-in, lands-on, leaves, full, task, calls-change}
 use Rattle.records.proofs.Tasks.{R, Join-at, Close-gap, Join-records}
 use Rattle.walks.proofs.Rows as Rows
-use Rattle.records.specs.Steps.{joinedAt, joinedRecords}
+use Rattle.records.specs.inside.Steps.{joinedAt, joinedRecords}
 use Rattle.records.proofs.join_at.Symbol as join-at-def
 use Rattle.records.proofs.join_at.Symbol.{name as #join-at}
 use Rattle.records.proofs.join_at.Met as join-at-thm

@@ -7,7 +7,7 @@ use Rattle.timeline.proofs.segment.Segment.Laws as T′
 use Rattle.walks.proofs.Looks as Looks
 use Rattle.walks.proofs.Values as Values
 use Rattle.timeline.specs.Segments.{segmentAt}
-use Rattle.records.specs.Steps.{placeAfter, keptPlace}
+use Rattle.records.specs.inside.Steps.{placeAfter, keptPlace}
 use Rattle.records.proofs.Places.{after-within, keeper-is}
 use Rattle.records.proofs.record_at.Symbol as record-at-def
 use Rattle.records.proofs.record_at.Symbol.{name as #record-at}

@@ -10,7 +10,7 @@ use Rattle.walks.proofs.Looks as Looks
 use Rattle.timeline.specs.declared.segment.Segment.{Segment}
 use Rattle.shortening.specs.Shorten.{firstShort, keeper}
 use lib.ListN.{take}
-use Rattle.records.specs.Steps.{joinedRecords}
+use Rattle.records.specs.inside.Steps.{joinedRecords}
 use Rattle.records.proofs.Shortened.{Shortening, shortening-start, now-room, short-within, keeper-there, shortening-more, shortening-few, shortening-done}
 use Rattle.records.proofs.first_short.Symbol as first-short-def
 use Rattle.records.proofs.first_short.Symbol.{name as #first-short}

@@ -2,11 +2,15 @@
 use Prim.Native.Nat.{ℕ, _^_, _<_, _≤_}
 use mathlib.Core.List.{List}
 use lib.ListN.{length, getD, set}
-use lib.Ieee.{nan}
+use lib.Ieee.{Float, nan}
 use Rattle.laws.specs.Front.{list}
 use Rattle.keys.specs.Numbers.{keyNumber, keyAt}
-use Rattle.timeline.specs.Estimates.{EstimateRows, estimateRows}
+use Rattle.timeline.specs.Estimates.{EstimateRows}
 use Rattle.timeline.specs.declared.estimate.Estimate.{Estimate}
+
+-- rows of estimates, from their slices
+abbrev pub estimateRows : List Float → List ℕ → List Float → EstimateRows
+estimateRows centres keys confidences = record { centres = centres; keys = keys; confidences = confidences }
 
 -- the rows with one estimate put into place n
 abbrev pub putEstimate : Estimate → ℕ → EstimateRows → EstimateRows

@@ -2,9 +2,14 @@
 use Prim.Native.Nat.{ℕ, _≤_}
 use mathlib.Core.List.{List}
 use lib.ListN.{length, set}
+use lib.Ieee.{Float}
 use Rattle.keys.specs.Numbers.{keyNumber}
-use Rattle.timeline.specs.Segments.{SegmentRows, segmentRows, holdingSegments}
+use Rattle.timeline.specs.Segments.{SegmentRows, holdingSegments}
 use Rattle.timeline.specs.declared.segment.Segment.{Segment}
+
+-- rows of segments, from their slices
+abbrev pub segmentRows : List Float → List Float → List ℕ → List Float → SegmentRows
+segmentRows starts ends keys confidences = record { starts = starts; ends = ends; keys = keys; confidences = confidences }
 
 -- the rows with one segment put into place n
 abbrev pub putSegment : Segment → ℕ → SegmentRows → SegmentRows

@@ -12,7 +12,8 @@ use Rattle.laws.specs.Front.{list}
 use Rattle.laws.proofs.Front.{list-more}
 use Rattle.keys.specs.Numbers.{keyNumber}
 use Rattle.keys.specs.declared.Key.{Key}
-use Rattle.timeline.specs.Segments.{SegmentRows, segmentRows, lentSegments, segmentIn, segmentsIn}
+use Rattle.timeline.specs.Segments.{SegmentRows, lentSegments, segmentIn, segmentsIn}
+use Rattle.timeline.specs.inside.Segments.{segmentRows}
 use Rattle.timeline.specs.declared.segment.Segment.{Segment}
 use Rattle.alternates.specs.Alternate.{lasting}
 use Rattle.alternates.specs.Noted.{notedOf}

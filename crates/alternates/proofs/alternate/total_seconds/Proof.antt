@@ -8,7 +8,8 @@ use borrow.Author.Needs.{needs}
 use Rattle.laws.specs.Front.{list}
 use Rattle.laws.specs.Lists.{fold}
 use Rattle.laws.proofs.Front.{list-more}
-use Rattle.timeline.specs.Segments.{SegmentRows, segmentRows, lentSegments, segmentIn, segmentsIn}
+use Rattle.timeline.specs.Segments.{SegmentRows, lentSegments, segmentIn, segmentsIn}
+use Rattle.timeline.specs.inside.Segments.{segmentRows}
 use Rattle.timeline.specs.declared.segment.Segment.{Segment}
 use Rattle.alternates.specs.Alternate.{heldSeconds, totalOf}
 use Rattle.alternates.proofs.Sums.{total-more}

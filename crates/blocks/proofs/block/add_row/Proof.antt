@@ -8,7 +8,7 @@ use lib.ListN.{getD}
 use lib.Ieee.{nan}
 use Rattle.laws.proofs.Front.{Filled, filled-start, filled-more, filled-rest, filled-whole}
 use Rattle.filters.specs.Classes.{classAdded}
-use Rattle.blocks.specs.Block.{rowAdded}
+use Rattle.blocks.specs.inside.Block.{rowAdded}
 use Rattle.blocks.proofs.block.add_row.Statement.{statement}
 use Rattle.blocks.proofs.block.add_row.Tie as tie
 

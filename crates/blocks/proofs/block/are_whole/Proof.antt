@@ -6,7 +6,7 @@ use mathlib.Core.Path.{_≡_, refl}
 use lib.ListN.{length, getD}
 use Rattle.laws.specs.Every.{every, everyEntry}
 use Rattle.laws.proofs.Every.{every-more, every-all}
-use Rattle.blocks.specs.Block.{wholeAt, allWhole}
+use Rattle.blocks.specs.inside.Block.{wholeAt, allWhole}
 use Rattle.blocks.proofs.block.are_whole.Statement.{statement}
 use Rattle.blocks.proofs.block.are_whole.Tie as tie
 

@@ -5,7 +5,7 @@ use Prim.Native.Nat.{ℕ, _≤_, _-_}
 use lib.Ieee.{ofBits}
 use Rattle.laws.proofs.Front.{Filled, filled-start, filled-more, filled-whole}
 use Rattle.filters.specs.Classes.{noSums}
-use Rattle.blocks.specs.Block.{emptyBlock}
+use Rattle.blocks.specs.inside.Block.{emptyBlock}
 use Rattle.blocks.proofs.block.clear.Statement.{statement}
 use Rattle.blocks.proofs.block.clear.Tie as tie
 

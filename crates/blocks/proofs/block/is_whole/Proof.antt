@@ -2,7 +2,7 @@
 use borrow.Author.Needs.{needs}
 use mathlib.Core.Path.{refl}
 use borrow.Author.Tests.{lt-leb, le-leb}
-use Rattle.blocks.specs.Block.{wholeAt}
+use Rattle.blocks.specs.inside.Block.{wholeAt}
 use Rattle.blocks.proofs.block.is_whole.Statement.{statement}
 use Rattle.blocks.proofs.block.is_whole.Tie as tie
 

@@ -2,7 +2,7 @@
 use borrow.Author.Needs.{needs}
 use native.Mathlib.Omega.{arith}
 use mathlib.Core.Path.{ap, _∙_}
-use Rattle.blocks.specs.Eight.{fourApart}
+use Rattle.blocks.specs.inside.Eight.{fourApart}
 use Rattle.blocks.proofs.Eights.{early-lie, late-lie, eight-told}
 use Rattle.blocks.proofs.eight.eight_powers.Statement.{statement}
 use Rattle.blocks.proofs.eight.eight_powers.Tie as tie

@@ -1,7 +1,7 @@
 -- The callees' definitions, put together.
 use borrow.Author.Needs.{needs}
 use mathlib.Core.Path.{refl}
-use Rattle.blocks.specs.Eight.{powersLeft}
+use Rattle.blocks.specs.inside.Eight.{powersLeft}
 use borrow.Author.Needs.{needs}
 use Rattle.blocks.proofs.eight.powers_left.Statement.{statement}
 use Rattle.blocks.proofs.eight.powers_left.Tie as tie

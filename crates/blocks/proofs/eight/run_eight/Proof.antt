@@ -7,7 +7,7 @@ use Rattle.laws.specs.Turns.{turns}
 use Rattle.filters.specs.Resonator.{resonated}
 use Rattle.constant_q.specs.inside.Lanes.{fourDelays}
 use Rattle.constant_q.proofs.Resonators.{four-more}
-use Rattle.blocks.specs.Eight.{eightDelays}
+use Rattle.blocks.specs.inside.Eight.{eightDelays}
 use Rattle.blocks.proofs.eight.run_eight.Statement.{statement}
 use Rattle.blocks.proofs.eight.run_eight.Tie as tie
 

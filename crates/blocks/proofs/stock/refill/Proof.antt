@@ -3,7 +3,7 @@ use borrow.Author.Needs.{needs}
 use native.Mathlib.Omega.{arith}
 use mathlib.Core.Path.{sym, _∙_}
 use Rattle.constant_q.specs.inside.Powers.{constantQRows}
-use Rattle.blocks.specs.Stock.{constantAt}
+use Rattle.blocks.specs.inside.Stock.{constantAt}
 use Rattle.blocks.proofs.Supplies.{one-held, block-held, last-near, inside}
 use Rattle.blocks.proofs.stock.refill.Statement.{statement}
 use Rattle.blocks.proofs.stock.refill.Tie as tie

@@ -1,7 +1,7 @@
 -- The position is held, or the block is filled from it on.
 use borrow.Author.Needs.{needs}
 use Rattle.constant_q.specs.inside.Powers.{constantQRows}
-use Rattle.blocks.specs.Stock.{constantAt}
+use Rattle.blocks.specs.inside.Stock.{constantAt}
 use Rattle.blocks.proofs.Supplies.{from-held, from-filled}
 use Rattle.blocks.proofs.stock.supply.Statement.{statement}
 use Rattle.blocks.proofs.stock.supply.Tie as tie

@@ -4,7 +4,7 @@ use Prim.Native.Nat.{ℕ, _-_, _≤_, _<_}
 use native.Mathlib.Omega.{arith}
 use lib.ListN.{length}
 use Rattle.laws.specs.Front.{list}
-use Rattle.bits.specs.Pens.{BitsPut}
+use Rattle.bits.specs.inside.Pens.{BitsPut}
 use Rattle.card.specs.Layout.{SegmentFits}
 use Rattle.card_writer.specs.Form.{segmentBits, segmentsBits, segmentWidth}
 use Rattle.card_judge.specs.Analysed.{packedAt}

@@ -6,7 +6,7 @@ use lib.ListN.{length}
 use lib.Pow.{pow-pos}
 use borrow.Author.Needs.{needs}
 use Rattle.bits.specs.Bits.{bitsOf, HasBits}
-use Rattle.bits.specs.Pens.{bitCount}
+use Rattle.bits.specs.inside.Pens.{bitCount}
 use Rattle.card.specs.Layout.{Meaning, SegmentFits, HeaderFits}
 use Rattle.card_writer.specs.Form.{headerWidth, headerBits, segmentWidth, segmentsBits}
 use Rattle.card_judge.specs.Analysed.{packedAt, packedHeader, meaning}

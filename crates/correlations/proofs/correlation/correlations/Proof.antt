@@ -1,6 +1,6 @@
 -- Four roots three times.
 use borrow.Author.Needs.{needs}
-use Rattle.correlations.specs.Lanes.{turnedOf}
+use Rattle.correlations.specs.inside.Lanes.{turnedOf}
 use Rattle.correlations.proofs.correlation.correlations.Statement.{statement}
 use Rattle.correlations.proofs.correlation.correlations.Tie as tie
 

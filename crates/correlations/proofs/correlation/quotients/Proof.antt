@@ -1,6 +1,6 @@
 -- A quotient for each root.
 use borrow.Author.Needs.{needs}
-use Rattle.correlations.specs.Lanes.{quotientsOf}
+use Rattle.correlations.specs.inside.Lanes.{quotientsOf}
 use Rattle.correlations.proofs.correlation.quotients.Statement.{statement}
 use Rattle.correlations.proofs.correlation.quotients.Tie as tie
 

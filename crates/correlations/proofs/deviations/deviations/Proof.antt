@@ -7,7 +7,7 @@ use lib.Ieee.{Float, binary32, ofBits, div}
 use Rattle.laws.specs.Front.{list}
 use Rattle.laws.proofs.Front.{Filled, filled-start, filled-more, filled-whole}
 use Rattle.correlations.specs.Correlation.{deviation}
-use Rattle.correlations.specs.Deviations.{deviationsOf}
+use Rattle.correlations.specs.inside.Deviations.{deviationsOf}
 use Rattle.correlations.proofs.deviations.deviations.Statement.{statement}
 use Rattle.correlations.proofs.deviations.deviations.Tie as tie
 

@@ -6,7 +6,7 @@ use Prim.Native.Nat.{_≤_, _-_}
 use lib.Ieee.{ofBits}
 use Rattle.laws.specs.Turns.{turns}
 use Rattle.laws.proofs.Turns.{turns-start, turns-again, turns-end}
-use Rattle.correlations.specs.Deviations.{deviationEnergyTurn, deviationEnergy}
+use Rattle.correlations.specs.inside.Deviations.{deviationEnergyTurn, deviationEnergy}
 use Rattle.correlations.proofs.deviations.energy.Statement.{statement}
 use Rattle.correlations.proofs.deviations.energy.Tie as tie
 

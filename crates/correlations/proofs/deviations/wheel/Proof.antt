@@ -8,7 +8,7 @@ use lib.ListN.{getD}
 use lib.Ieee.{Float, nan}
 use Rattle.laws.specs.Front.{list}
 use Rattle.laws.proofs.Front.{Filled, filled-start, filled-more, filled-whole}
-use Rattle.correlations.specs.Deviations.{backward, wheelOf}
+use Rattle.correlations.specs.inside.Deviations.{backward, wheelOf}
 use Rattle.correlations.proofs.deviations.wheel.Statement.{statement}
 use Rattle.correlations.proofs.deviations.wheel.Tie as tie
 

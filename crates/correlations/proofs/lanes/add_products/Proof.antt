@@ -1,6 +1,6 @@
 -- The sums are the definition's.
 use mathlib.Core.Path.{refl}
-use Rattle.correlations.specs.Lanes.{addedFour}
+use Rattle.correlations.specs.inside.Lanes.{addedFour}
 use Rattle.correlations.proofs.lanes.add_products.Statement.{statement}
 use Rattle.correlations.proofs.lanes.add_products.Tie as tie
 

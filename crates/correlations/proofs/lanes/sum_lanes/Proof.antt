@@ -6,7 +6,7 @@ use Prim.Native.Nat.{_≤_, _-_}
 use lib.Ieee.{ofBits}
 use Rattle.laws.specs.Turns.{turns}
 use Rattle.laws.proofs.Turns.{turns-start, turns-again, turns-end}
-use Rattle.correlations.specs.Lanes.{lanesTurn, lanesOf}
+use Rattle.correlations.specs.inside.Lanes.{lanesTurn, lanesOf}
 use Rattle.correlations.proofs.lanes.sum_lanes.Statement.{statement}
 use Rattle.correlations.proofs.lanes.sum_lanes.Tie as tie
 

@@ -5,8 +5,8 @@ use Prim.Native.Nat.{ℕ, _-_}
 use native.Mathlib.Omega.{arith}
 use borrow.Author.Needs.{needs}
 use borrow.Author.Tests.{not-true, not-false}
-use Rattle.calls.specs.Call.{Call, callOf}
-use Rattle.calls.specs.Rows.{rows}
+use Rattle.calls.specs.Call.{Call}
+use Rattle.calls.specs.inside.Parts.{callOf, rows}
 use Rattle.one_frame.specs.Frame.{loud}
 use Rattle.frames.specs.Run.{energyAt, frameRow}
 use Rattle.frames.proofs.Runs.{frame-fits, heard, row-is, judged, Reached, reached-start, reached-quiet, reached-loud, reached-broken, reached-end, Stocked, stocked-start, stocked-quiet, stocked-loud, centred, tuned}

@@ -5,7 +5,7 @@ use borrow.Author.Needs.{needs}
 use borrow.Author.Tests.{not-true, not-false}
 use Rattle.laws.specs.First.{first}
 use Rattle.laws.proofs.First.{first-again, first-out, first-end}
-use Rattle.gathering.specs.Ahead.{isPast, stopOf}
+use Rattle.gathering.specs.inside.Ahead.{isPast, stopOf}
 use Rattle.gathering.proofs.ahead.find_stop.Statement.{statement}
 use Rattle.gathering.proofs.ahead.find_stop.Tie as tie
 

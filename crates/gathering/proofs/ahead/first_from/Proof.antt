@@ -4,7 +4,7 @@ use Prim.Native.Nat.{_-_}
 use borrow.Author.Needs.{needs}
 use Rattle.laws.specs.First.{first}
 use Rattle.laws.proofs.First.{first-again, first-out, first-end}
-use Rattle.gathering.specs.Ahead.{isFrom, firstFrom}
+use Rattle.gathering.specs.inside.Ahead.{isFrom, firstFrom}
 use Rattle.gathering.proofs.ahead.first_from.Statement.{statement}
 use Rattle.gathering.proofs.ahead.first_from.Tie as tie
 

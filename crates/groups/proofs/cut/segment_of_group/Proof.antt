@@ -1,6 +1,6 @@
 -- What the calls ensure, put together.
 use borrow.Author.Needs.{needs}
-use Rattle.groups.specs.Written.{grouped}
+use Rattle.groups.specs.inside.Written.{grouped}
 use Rattle.groups.proofs.cut.segment_of_group.Statement.{statement}
 use Rattle.groups.proofs.cut.segment_of_group.Tie as tie
 

@@ -1,8 +1,7 @@
 -- What the calls ensure, put together.
 use borrow.Author.Needs.{needs}
 use mathlib.Core.Path.{ap, _∙_}
-use Rattle.timeline.specs.Segments.{segmentRows}
-use Rattle.timeline.specs.inside.Segments.{putSegment}
+use Rattle.timeline.specs.inside.Segments.{segmentRows, putSegment}
 use Rattle.timeline.specs.declared.segment.Segment.{Segment}
 use Rattle.groups.proofs.Parts.{part-numbered}
 use Rattle.groups.proofs.cut.write_group.Statement.{statement}

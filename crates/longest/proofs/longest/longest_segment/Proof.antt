@@ -5,7 +5,8 @@ use native.Mathlib.Omega.{arith}
 use borrow.Author.Needs.{needs}
 use Rattle.laws.specs.Turns.{turns}
 use Rattle.laws.proofs.Turns.{turns-again, turns-end}
-use Rattle.timeline.specs.Segments.{SegmentRows, segmentRows, lentSegments, segmentAt, segmentsIn}
+use Rattle.timeline.specs.Segments.{SegmentRows, lentSegments, segmentAt, segmentsIn}
+use Rattle.timeline.specs.inside.Segments.{segmentRows}
 use Rattle.longest.proofs.Rows.{read-at, rows-start}
 use Rattle.longest.specs.Longest.{longer, longestTurn, longestOf}
 use Rattle.longest.proofs.longest.longest_segment.Statement.{statement}

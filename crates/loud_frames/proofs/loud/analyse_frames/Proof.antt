@@ -1,8 +1,8 @@
 -- A law for each way out.
 use borrow.Author.Needs.{needs}
-use Rattle.calls.specs.Rows.{rows}
-use Rattle.timeline.specs.Estimates.{estimateRows}
-use Rattle.timeline.specs.Segments.{segmentRows}
+use Rattle.calls.specs.inside.Parts.{rows}
+use Rattle.timeline.specs.inside.Estimates.{estimateRows}
+use Rattle.timeline.specs.inside.Segments.{segmentRows}
 use Rattle.rooms.specs.Lent.{lent}
 use Rattle.loud_frames.proofs.Louds.{none-loud, faint-so, heard-so}
 use Rattle.loud_frames.proofs.loud.analyse_frames.Statement.{statement}

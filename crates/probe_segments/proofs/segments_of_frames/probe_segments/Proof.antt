@@ -1,7 +1,7 @@
 -- Past the guard there is room for all that is located.
 use borrow.Author.Needs.{needs}
-use Rattle.timeline.specs.Estimates.{estimateRows}
-use Rattle.timeline.specs.Segments.{segmentRows}
+use Rattle.timeline.specs.inside.Estimates.{estimateRows}
+use Rattle.timeline.specs.inside.Segments.{segmentRows}
 use Rattle.probe_segments.specs.Segments.{probedTrack}
 use Rattle.probe_segments.proofs.Segmenting.{little-room, locate-needs, located-so}
 use Rattle.probe_segments.proofs.segments_of_frames.probe_segments.Statement.{statement}

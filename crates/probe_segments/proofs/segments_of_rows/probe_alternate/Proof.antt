@@ -4,7 +4,8 @@ use mathlib.Core.Path.{ap, _∙_}
 use Prim.Native.Nat.{ℕ}
 use Rattle.keys.specs.Numbers.{keyNumber, keyAt}
 use Rattle.keys.specs.declared.Key.{Key}
-use Rattle.timeline.specs.Segments.{segmentRows, segmentsIn}
+use Rattle.timeline.specs.Segments.{segmentsIn}
+use Rattle.timeline.specs.inside.Segments.{segmentRows}
 use Rattle.alternates.specs.Alternate.{alternateOf}
 use Rattle.probe_segments.specs.Segments.{probedAnswer}
 use Rattle.probe_segments.proofs.segments_of_rows.probe_alternate.Statement.{statement}

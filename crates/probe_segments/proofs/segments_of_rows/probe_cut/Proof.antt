@@ -1,7 +1,7 @@
 -- Past both guards the estimates fit and all keys are numbers.
 use borrow.Author.Needs.{needs}
-use Rattle.timeline.specs.Estimates.{estimateRows}
-use Rattle.timeline.specs.Segments.{segmentRows}
+use Rattle.timeline.specs.inside.Estimates.{estimateRows}
+use Rattle.timeline.specs.inside.Segments.{segmentRows}
 use Rattle.probe_segments.specs.Segments.{trackOf}
 use Rattle.probe_segments.proofs.Segmenting.{not-fit, not-numbered, cut-needs, cut-so}
 use Rattle.probe_segments.proofs.segments_of_rows.probe_cut.Statement.{statement}

@@ -1,6 +1,6 @@
 -- Past the guard all keys are numbers.
 use borrow.Author.Needs.{needs}
-use Rattle.timeline.specs.Segments.{segmentRows}
+use Rattle.timeline.specs.inside.Segments.{segmentRows}
 use Rattle.probe_segments.proofs.Segmenting.{not-shortened, shorten-needs, shortened}
 use Rattle.probe_segments.proofs.segments_of_rows.probe_shorten.Statement.{statement}
 use Rattle.probe_segments.proofs.segments_of_rows.probe_shorten.Tie as tie

@@ -4,7 +4,7 @@ use mathlib.Core.Path.{_≡_}
 use native.Mathlib.Omega.{arith}
 use Rattle.laws.specs.Turns.{turns}
 use Rattle.laws.proofs.Turns.{turns-start, turns-again, turns-end}
-use Rattle.ranks.specs.Narrow.{underTurn, countUnder}
+use Rattle.ranks.specs.inside.Narrow.{underTurn, countUnder}
 use borrow.Author.Needs.{needs}
 use Rattle.ranks.proofs.narrowing.count_under.Statement.{statement}
 use Rattle.ranks.proofs.narrowing.count_under.Tie as tie

@@ -1,7 +1,7 @@
 -- A value a turn: it is written behind those kept, and stays where it passes the test.
 use Prim.Native.Nat.{_≤_, _-_}
 use native.Mathlib.Omega.{arith}
-use Rattle.ranks.specs.Narrow.{within}
+use Rattle.ranks.specs.inside.Narrow.{within}
 use Rattle.ranks.proofs.Moved.{Moved, moved-start, moved-kept, moved-passed, moved-end}
 use borrow.Author.Needs.{needs}
 use Rattle.ranks.proofs.narrowing.keep_within.Statement.{statement}

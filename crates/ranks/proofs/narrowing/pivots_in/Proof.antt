@@ -3,7 +3,7 @@ use mathlib.Core.Path.{sym, subst}
 use Prim.Native.Nat.{_≤_, _-_}
 use lib.Dec.{T}
 use lib.Ieee.{Float, lt, ofBits}
-use Rattle.ranks.specs.Narrow.{divides}
+use Rattle.ranks.specs.inside.Narrow.{divides}
 use borrow.Author.Needs.{needs}
 use Rattle.ranks.proofs.narrowing.pivots_in.Statement.{statement}
 use Rattle.ranks.proofs.narrowing.pivots_in.Tie as tie

@@ -1,6 +1,6 @@
 -- Each return is a branch of the definition.
 use borrow.Author.Tests.{lt-ltb, le-ltb}
-use Rattle.ranks.specs.Search.{patternOfKey}
+use Rattle.ranks.specs.inside.Search.{patternOfKey}
 use borrow.Author.Needs.{needs}
 use Rattle.ranks.proofs.values.pattern_of_key.Statement.{statement}
 use Rattle.ranks.proofs.values.pattern_of_key.Tie as tie

@@ -1,7 +1,7 @@
 -- The value of the key's pattern.
 use mathlib.Core.Path.{ap, _∙_}
 use lib.Ieee.{binary32, ofBits}
-use Rattle.ranks.specs.Search.{valueOfKey}
+use Rattle.ranks.specs.inside.Search.{valueOfKey}
 use borrow.Author.Needs.{needs}
 use Rattle.ranks.proofs.values.value_of_key.Statement.{statement}
 use Rattle.ranks.proofs.values.value_of_key.Tie as tie

@@ -1,7 +1,7 @@
 -- A law for each answer of the segments' search.
 use borrow.Author.Needs.{needs}
-use Rattle.timeline.specs.Estimates.{estimateRows}
-use Rattle.timeline.specs.Segments.{segmentRows}
+use Rattle.timeline.specs.inside.Estimates.{estimateRows}
+use Rattle.timeline.specs.inside.Segments.{segmentRows}
 use Rattle.gathering.specs.Gather.{heard}
 use Rattle.segments.proofs.Told.{told-room}
 use Rattle.reports.proofs.Reports.{prepared-span, halted-so, told-so}

@@ -6,7 +6,7 @@ use Prim.Native.Nat.{_≤_, _-_}
 use lib.Ieee.{ofBits}
 use Rattle.laws.specs.Turns.{turns}
 use Rattle.laws.proofs.Turns.{turns-start, turns-again, turns-end}
-use Rattle.scores.specs.Modes.{modeTurn, modeSums}
+use Rattle.scores.specs.inside.Modes.{modeTurn, modeSums}
 use Rattle.scores.proofs.scoring.sum_mode.Statement.{statement}
 use Rattle.scores.proofs.scoring.sum_mode.Tie as tie
 

@@ -1,8 +1,8 @@
 -- Groups where there is an estimate, the whole track where there is none.
 use borrow.Author.Needs.{needs}
 use lib.Ieee.{ofBits}
-use Rattle.timeline.specs.Estimates.{estimateRows}
-use Rattle.timeline.specs.Segments.{segmentRows}
+use Rattle.timeline.specs.inside.Estimates.{estimateRows}
+use Rattle.timeline.specs.inside.Segments.{segmentRows}
 use Rattle.segments.proofs.Fills.{groups-cut, whole-cut}
 use Rattle.segments.proofs.fill.cut_track.Statement.{statement}
 use Rattle.segments.proofs.fill.cut_track.Tie as tie

@@ -1,8 +1,7 @@
 -- The rows that hold the cut segments are shortened as the segments are.
 use borrow.Author.Needs.{needs}
-use Rattle.timeline.specs.Estimates.{estimateRows}
-use Rattle.timeline.specs.inside.Estimates.{estimatesIn}
-use Rattle.timeline.specs.Segments.{segmentRows}
+use Rattle.timeline.specs.inside.Estimates.{estimateRows, estimatesIn}
+use Rattle.timeline.specs.inside.Segments.{segmentRows}
 use Rattle.segments.specs.inside.Fill.{cutOf, filledOf}
 use Rattle.segments.proofs.Fills.{cut-room, cut-numbered, settled-same}
 use Rattle.segments.proofs.fill.fill_segments.Statement.{statement}

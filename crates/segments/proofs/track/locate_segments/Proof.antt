@@ -1,7 +1,7 @@
 -- A law for each answer of the run over the windows.
 use borrow.Author.Needs.{needs}
-use Rattle.timeline.specs.Estimates.{estimateRows}
-use Rattle.timeline.specs.Segments.{segmentRows}
+use Rattle.timeline.specs.inside.Estimates.{estimateRows}
+use Rattle.timeline.specs.inside.Segments.{segmentRows}
 use Rattle.gathering.specs.Gather.{heard}
 use Rattle.segments.proofs.Locates.{prepared-run, passed-needs, halted, told-all}
 use Rattle.segments.proofs.track.locate_segments.Statement.{statement}

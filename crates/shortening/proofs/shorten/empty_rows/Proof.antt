@@ -1,7 +1,7 @@
 -- A row a turn: each law stands in `Empties`.
 use Prim.Native.Nat.{_-_}
 use borrow.Author.Needs.{needs}
-use Rattle.timeline.specs.Segments.{segmentRows}
+use Rattle.timeline.specs.inside.Segments.{segmentRows}
 use Rattle.shortening.proofs.Empties.{Emptying, emptying-start, emptying-more, emptying-end}
 use Rattle.shortening.proofs.shorten.empty_rows.Statement.{statement}
 use Rattle.shortening.proofs.shorten.empty_rows.Tie as tie

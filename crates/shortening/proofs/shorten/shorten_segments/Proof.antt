@@ -3,7 +3,7 @@ use mathlib.Core.Path.{refl, _∙_}
 use Prim.Native.Nat.{_+_, _-_}
 use native.Mathlib.Omega.{arith}
 use borrow.Author.Needs.{needs}
-use Rattle.timeline.specs.Segments.{segmentRows}
+use Rattle.timeline.specs.inside.Segments.{segmentRows}
 use Rattle.shortening.proofs.Shortens.{settled-none, taken-few, Gap, gap-start, now-room, back-two, back-room, more-room, gap-back, gap-more, gap-end}
 use Rattle.shortening.proofs.shorten.shorten_segments.Statement.{statement}
 use Rattle.shortening.proofs.shorten.shorten_segments.Tie as tie

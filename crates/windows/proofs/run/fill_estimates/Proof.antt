@@ -4,7 +4,7 @@ use native.Mathlib.Omega.{arith}
 use borrow.Author.Needs.{needs}
 use lib.Ieee.{ofBits}
 use Rattle.gathering.specs.Gather.{heard}
-use Rattle.timeline.specs.Estimates.{estimateRows}
+use Rattle.timeline.specs.inside.Estimates.{estimateRows}
 use Rattle.gathering.proofs.Known.{known-own}
 use Rattle.windows.proofs.Runs.{Reached, reached-known, reached-held, reached-start, reached-again, reached-stuck, reached-end}
 use Rattle.windows.proofs.run.fill_estimates.Statement.{statement}

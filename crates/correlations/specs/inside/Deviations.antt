@@ -1,4 +1,4 @@
--- What all correlations with twelve values share: their deviations from the mean, and the sum of the deviations' squares. Definitions only.
+-- What all correlations with twelve values share: their deviations from the mean, and the sum of the deviations' squares. No promise names it. Definitions only.
 use Prim.Native.Nat.{ℕ, _-_, _%_}
 use mathlib.Core.List.{List}
 use lib.ListN.{getD}

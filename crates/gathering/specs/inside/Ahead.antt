@@ -1,4 +1,4 @@
--- Which frames a window need look at: none before its start, and where the centres rise none from its end on. Definitions only.
+-- Which frames a window need look at: none before its start, and where the centres rise none from its end on. No promise names it. Definitions only.
 use Prim.Native.Nat.{ℕ, _-_, _<_, _≤_}
 use mathlib.Core.Path.{_≡_}
 use mathlib.Core.Bool.{Bool, false, not, cond}

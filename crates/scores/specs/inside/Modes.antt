@@ -1,12 +1,12 @@
--- The correlations with the four profiles of a mode, summed at all roots together. Definitions only.
+-- The correlations with the four profiles of a mode, summed at all roots together. No promise names it. Definitions only.
 use Prim.Native.Nat.{ℕ, _+_, _*_}
 use mathlib.Core.List.{List}
 use lib.Ieee.{Float}
 use Rattle.laws.specs.Turns.{turns}
 use Rattle.laws.specs.Values.{plusZero}
 use Rattle.numbers.specs.Sum.{addedEach}
-use Rattle.correlations.specs.Deviations.{wheelOf}
-use Rattle.correlations.specs.Lanes.{alike, twelve, turnedOf}
+use Rattle.correlations.specs.inside.Deviations.{wheelOf}
+use Rattle.correlations.specs.inside.Lanes.{alike, twelve, turnedOf}
 use Rattle.scores.specs.Profiles.{profileAt}
 
 -- profile p of the mode

@@ -1,4 +1,4 @@
--- What the steps of `select` hand to one another. Definitions only.
+-- What the steps of `select` hand to one another. No promise names it. Definitions only.
 use Prim.Native.Nat.{ℕ, _+_, _-_, _*_, _≤_, _<_}
 use mathlib.Core.Bool.{cond}
 use mathlib.Core.List.{List}

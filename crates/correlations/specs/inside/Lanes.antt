@@ -1,4 +1,4 @@
--- The correlations with one profile at four roots side by side, and at twelve. Definitions only.
+-- The correlations with one profile at four roots side by side, and at twelve. No promise names it. Definitions only.
 use Prim.Native.Nat.{ℕ, _+_, _-_}
 use mathlib.Core.List.{List, [], _∷_}
 use lib.ListN.{getD}

@@ -1,4 +1,4 @@
--- Values kept by bounds, and what stays the same. Definitions only.
+-- Values kept by bounds, and what stays the same. No promise names it. Definitions only.
 use mathlib.Core.Path.{_≡_}
 use mathlib.Core.Bool.{Bool, not, _&&_, _||_, cond}
 use mathlib.Core.List.{List, [], _∷_}
@@ -9,7 +9,7 @@ use lib.Ieee.{Float, nan, lt, binary32, fits}
 use Rattle.laws.specs.Order.{orderKey}
 use Rattle.laws.specs.Turns.{turns}
 use Rattle.laws.specs.Values.{plusZero}
-use Rattle.ranks.specs.Search.{countBelow, keyAtRank}
+use Rattle.ranks.specs.inside.Search.{countBelow, keyAtRank}
 
 -- a bound by which `<` parts values as the total order does: no zero and no NaN
 abbrev pub divides : Float → Bool

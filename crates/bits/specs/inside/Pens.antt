@@ -1,4 +1,4 @@
--- A pen that puts bits into lent bytes from their front. Definitions only.
+-- A pen that puts bits into lent bytes from their front. No promise names it. Definitions only.
 use mathlib.Core.Path.{_≡_}
 use mathlib.Core.List.{List, _++_}
 use Prim.Native.Nat.{ℕ, _+_, _*_, _^_, _<_, _≤_}

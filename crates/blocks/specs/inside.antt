@@ -1,0 +1,4 @@
+-- What only the code's own steps need: no promise names it.
+pub mod Block
+pub mod Eight
+pub mod Stock

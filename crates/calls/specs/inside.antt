@@ -1,0 +1,2 @@
+-- What only the code's own steps and proofs need: no promise names it.
+pub mod Parts
