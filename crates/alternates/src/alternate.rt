@@ -8,7 +8,7 @@ ghost use Rattle.laws.specs.Leader.{outdone};
 ghost use Rattle.keys.specs.Numbers.{keyNumber};
 ghost use Rattle.timeline.specs.Estimates.{Numbered};
 ghost use Rattle.timeline.specs.Segments.{Room, lentSegments, segmentsIn};
-ghost use Rattle.alternates.specs.Alternate.{heldSeconds, lasting, totalOf, rivalOf, namedUnlessLacking, alternateOf};
+ghost use Rattle.alternates.specs.Alternate.{heldSeconds, lasting, totalOf, namedUnlessLacking, alternateOf};
 ghost use Rattle.alternates.specs.Noted.{notedOf, leaderIn, standingOf};
 use conversions::narrow;
 use keys::Key;
