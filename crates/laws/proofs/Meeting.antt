@@ -12,7 +12,7 @@ use lib.Seq.{slice, take-append-seam}
 use borrow.Author.Tests.{eq-eqb, ne-eqb, eqb-true, eqb-false}
 use Rattle.laws.specs.Front.{front, list}
 use Rattle.laws.specs.Leader.{keysMet}
-use Rattle.laws.proofs.Front.{list-same, list-set, list-own, replicate-list, length-list, length-front, front-more, getD-list}
+use Rattle.laws.proofs.Front.{list-same, list-set, list-own, replicate-list, length-list, front-more, getD-list}
 use Rattle.laws.proofs.Leader.{has, has-met, has-entry, met-more}
 
 -- how many marks are not set
@@ -72,11 +72,8 @@ module _ (n : ℕ) where
   meets-start = record { order-is = refl; met-is = refl; known-is = replicate-list n false; left = rw (unset-all n) (zero-add n) }
 
   module _ (keys order : List ℕ) (known : List Bool) (met : ℕ) (m : Meets n keys order known met) where
-    pub known-long : length known ≡ n
+    known-long : length known ≡ n
     known-long = ap length (m .known-is) ∙ length-list _ n
-
-    pub order-long : length order ≡ n
-    order-long = ap length (m .order-is) ∙ length-front (keysMet keys) (replicate n 0) (rw length-replicate (omega (arith, m .left, m .met-is))) ∙ length-replicate n 0
 
     module _ (key : ℕ) (below : key < n) where
       pub known-told : (d : Bool) → getD known key d ≡ has key keys

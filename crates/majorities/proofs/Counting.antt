@@ -2,15 +2,14 @@
 use mathlib.Core.Path.{_≡_, refl, sym, ap, _∙_, subst}
 use mathlib.Core.Bool.{Bool, true, false, cond}
 use mathlib.Core.List.{List, [], _∷_, _++_}
-use Prim.Native.Nat.{ℕ, zero, suc, _+_, _<_, _≤_}
+use Prim.Native.Nat.{ℕ, suc, _+_, _<_, _≤_}
 use native.Mathlib.Omega.{arith}
 use lib.Dec.{T, eqb, leb, leb·zero}
 use lib.ListN.{length, getD, set, replicate, length-append}
-use lib.Seq.{slice}
-use borrow.Author.Tests.{eq-eqb, ne-eqb, eqb-true, le-leb}
+use borrow.Author.Tests.{eq-eqb, ne-eqb}
 use Rattle.laws.specs.Front.{front, list}
 use Rattle.laws.specs.Lists.{passing, fold}
-use Rattle.laws.specs.Leader.{keysMet, Standing, nobody, leads, leadingKey, outdone, lastLargest}
+use Rattle.laws.specs.Leader.{keysMet, nobody, leads, leadingKey, outdone, lastLargest}
 use Rattle.laws.proofs.Front.{length-list, list-more, list-own, list-set, replicate-list, getD-list}
 use Rattle.laws.proofs.Lists.{passing-more, passing-less}
 use Rattle.laws.proofs.Leader.{has, has-met, has-place, fold-same}

@@ -25,6 +25,9 @@ mod frames;
 #[cfg(oracle)]
 #[path = "../speed/growth.rs"]
 mod growth;
+#[cfg(oracle)]
+#[path = "../speed/leaders.rs"]
+mod leaders;
 #[path = "../speed/leaves.rs"]
 mod leaves;
 #[cfg(oracle)]
@@ -84,6 +87,8 @@ const TOPICS: &[Topic] = &[
     ("medians", medians::print_row),
     #[cfg(oracle)]
     ("segments", segments::print_row),
+    #[cfg(oracle)]
+    ("leaders", leaders::print_rows),
     #[cfg(oracle)]
     ("analyses", analyses::print_rows),
     #[cfg(oracle)]

@@ -1,14 +1,14 @@
 -- The loop's invariant: the keys that are left lead from who leads so far to the last of the largest.
 use borrow.Author.Needs.{needs}
 use mathlib.Core.Path.{_≡_, refl, _∙_}
-use Prim.Native.Nat.{ℕ, _≤_, _-_, _+_, _<_}
+use Prim.Native.Nat.{ℕ, _≤_, _-_, _<_}
 use native.Mathlib.Omega.{arith}
 use lib.ListN.{getD}
 use lib.Seq.{slice}
 use lib.Ieee.{Float, nan}
 use Rattle.laws.specs.Lists.{fold}
 use Rattle.laws.specs.Order.{totalOrder}
-use Rattle.laws.specs.Leader.{Standing, nobody, outdone, lastLargest}
+use Rattle.laws.specs.Leader.{Standing, outdone, lastLargest}
 use Rattle.laws.proofs.Lists.{fold-again, fold-end}
 use Rattle.laws.proofs.Leader.{outdone-same}
 use Rattle.alternates.specs.Noted.{standingOf, leaderIn}

@@ -2,16 +2,14 @@
 use borrow.Author.Needs.{needs}
 use borrow.Author.Tests.{not-true, not-false}
 use mathlib.Core.Path.{_≡_, sym, ap, _∙_, subst}
-use mathlib.Core.Bool.{Bool, true, false}
+use mathlib.Core.Bool.{Bool, true}
 use mathlib.Core.List.{List, [], _∷_, _++_}
 use Prim.Native.Nat.{ℕ, _+_, _-_, _<_, _≤_, zero-le}
 use native.Mathlib.Omega.{arith}
-use lib.ListN.{set}
 use lib.Ieee.{Float, binary64, ofBits, add}
 use Rattle.laws.specs.Front.{list}
 use Rattle.laws.proofs.Front.{list-more}
 use Rattle.keys.specs.Numbers.{keyNumber}
-use Rattle.keys.specs.declared.Key.{Key}
 use Rattle.timeline.specs.Segments.{SegmentRows, lentSegments, segmentIn, segmentsIn}
 use Rattle.timeline.specs.inside.Segments.{segmentRows}
 use Rattle.timeline.specs.declared.segment.Segment.{Segment}

@@ -1,6 +1,5 @@
 -- The loop's invariant: the sum so far is that of the first i segments.
 use mathlib.Core.Path.{_≡_, refl, sym, ap, _∙_}
-use mathlib.Core.List.{List}
 use Prim.Native.Nat.{ℕ, _-_, _≤_, zero-le}
 use native.Mathlib.Omega.{arith}
 use lib.Ieee.{Float, binary64, ofBits, neg, add}

@@ -1,9 +1,8 @@
 -- The loop's invariant: what was counted and noted after i numbers.
 use borrow.Author.Needs.{needs}
 use borrow.Author.Tests.{not-true, not-false}
-use mathlib.Core.Path.{_≡_, sym, ap, _∙_}
 use mathlib.Core.List.{List}
-use Prim.Native.Nat.{ℕ, _-_, _+_, _<_}
+use Prim.Native.Nat.{ℕ, _-_, _<_}
 use native.Mathlib.Omega.{arith}
 use lib.ListN.{length, getD}
 use Rattle.majorities.proofs.Counting.{Counted, counted-start, votes-fit, unmet-fits, counted-new, counted-known, counted-all}

@@ -1,5 +1,4 @@
 -- The tally of all numbers, and its last of the largest.
-use borrow.Author.Needs.{needs}
 use mathlib.Core.Path.{_∙_}
 use Rattle.majorities.proofs.Counting.{tally-fits, told-rightly}
 use Rattle.majorities.proofs.majority.majority_key.Statement.{statement}

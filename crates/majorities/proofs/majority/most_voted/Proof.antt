@@ -1,11 +1,11 @@
 -- The loop's invariant: the keys that are left lead from who leads so far to the last of the largest.
 use borrow.Author.Needs.{needs}
 use borrow.Author.Tests.{le-leb, lt-leb}
-use mathlib.Core.Path.{_≡_, refl, sym, ap, _∙_}
+use mathlib.Core.Path.{_≡_, refl, ap, _∙_}
 use Prim.Native.Nat.{ℕ, _≤_, _-_, _+_, _<_}
 use native.Mathlib.Omega.{arith}
 use lib.Dec.{leb}
-use lib.ListN.{length, getD}
+use lib.ListN.{getD}
 use lib.Seq.{slice}
 use Rattle.laws.specs.Lists.{fold}
 use Rattle.laws.specs.Leader.{Standing, leads, leadingKey, outdone, lastLargest}
