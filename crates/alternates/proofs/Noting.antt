@@ -27,7 +27,7 @@ use Rattle.timeline.specs.inside.Estimates.{Numbered}
 use Rattle.timeline.specs.Segments.{emptied}
 use Rattle.timeline.specs.declared.segment.Segment.{Segment}
 use Rattle.alternates.specs.Alternate.{heldSeconds, lasting, lastsIn, summedFrom, secondsOf, lastingKeys, rivalOf}
-use Rattle.alternates.specs.Noted.{noted, notedOf, leaderIn}
+use Rattle.alternates.specs.inside.Noted.{noted, notedOf, leaderIn}
 use Rattle.alternates.specs.declared.alternate.Noted.{Noted}
 use Rattle.alternates.proofs.Sums.{summed-more}
 

@@ -1,3 +1,3 @@
 pub mod Alternate
 pub mod Named
-pub mod Noted
+pub mod inside

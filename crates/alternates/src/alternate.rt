@@ -10,7 +10,7 @@ ghost use Rattle.timeline.specs.inside.Estimates.{Numbered};
 ghost use Rattle.timeline.specs.Segments.{lentSegments, segmentsIn};
 ghost use Rattle.timeline.specs.inside.Segments.{Room};
 ghost use Rattle.alternates.specs.Alternate.{heldSeconds, lasting, totalOf, namedUnlessLacking, alternateOf};
-ghost use Rattle.alternates.specs.Noted.{notedOf, leaderIn, standingOf};
+ghost use Rattle.alternates.specs.inside.Noted.{notedOf, leaderIn, standingOf};
 use conversions::narrow;
 use keys::Key;
 use keys::numbers::key_number;

@@ -16,7 +16,7 @@ use Rattle.laws.proofs.Leader.{has, has-met, has-place, fold-same}
 use Rattle.laws.proofs.Meeting.{Meets, meets-start, new-fits, meets-new, meets-known, met-few, met-back, met-below}
 use Rattle.timeline.specs.inside.Estimates.{Numbered}
 use Rattle.majorities.specs.Majority.{votesOf, majorityOf}
-use Rattle.majorities.specs.Tally.{tally, tallyOf, mostVoted}
+use Rattle.majorities.specs.inside.Tally.{tally, tallyOf, mostVoted}
 use Rattle.majorities.specs.declared.majority.Tally.{Tally}
 
 -- ---- one number more

@@ -1,2 +1,2 @@
 pub mod Majority
-pub mod Tally
+pub mod inside

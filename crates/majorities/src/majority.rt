@@ -4,7 +4,7 @@ ghost use Prim.Native.Nat.{_≤_};
 ghost use lib.ListN.{length};
 ghost use Rattle.timeline.specs.inside.Estimates.{Numbered};
 ghost use Rattle.majorities.specs.Majority.{majorityOf};
-ghost use Rattle.majorities.specs.Tally.{tallyOf, mostVoted};
+ghost use Rattle.majorities.specs.inside.Tally.{tallyOf, mostVoted};
 
 // Each key's votes, and the keys in the order in which they are first met.
 struct Tally {

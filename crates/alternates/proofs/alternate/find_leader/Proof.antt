@@ -11,7 +11,7 @@ use Rattle.laws.specs.Order.{totalOrder}
 use Rattle.laws.specs.Leader.{Standing, outdone, lastLargest}
 use Rattle.laws.proofs.Lists.{fold-again, fold-end}
 use Rattle.laws.proofs.Leader.{outdone-same}
-use Rattle.alternates.specs.Noted.{standingOf, leaderIn}
+use Rattle.alternates.specs.inside.Noted.{standingOf, leaderIn}
 use Rattle.alternates.specs.declared.alternate.Noted.{Noted}
 use Rattle.alternates.proofs.alternate.find_leader.Statement.{statement}
 use Rattle.alternates.proofs.alternate.find_leader.Tie as tie

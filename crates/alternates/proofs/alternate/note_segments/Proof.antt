@@ -14,7 +14,7 @@ use Rattle.timeline.specs.Segments.{SegmentRows, lentSegments, segmentIn, segme
 use Rattle.timeline.specs.inside.Segments.{segmentRows}
 use Rattle.timeline.specs.declared.segment.Segment.{Segment}
 use Rattle.alternates.specs.Alternate.{lasting}
-use Rattle.alternates.specs.Noted.{notedOf}
+use Rattle.alternates.specs.inside.Noted.{notedOf}
 use Rattle.alternates.proofs.Noting.{Noting, noting-start, noting-idle, key-below, unmet-fits, noting-new, noting-known, noting-all}
 use Rattle.alternates.proofs.alternate.note_segments.Statement.{statement}
 use Rattle.alternates.proofs.alternate.note_segments.Tie as tie

@@ -10,7 +10,7 @@ use lib.Seq.{slice}
 use Rattle.laws.specs.Lists.{fold}
 use Rattle.laws.specs.Leader.{Standing, leads, leadingKey, outdone, lastLargest}
 use Rattle.laws.proofs.Lists.{fold-again, fold-end}
-use Rattle.majorities.specs.Tally.{mostVoted}
+use Rattle.majorities.specs.inside.Tally.{mostVoted}
 use Rattle.majorities.specs.declared.majority.Tally.{Tally}
 use Rattle.majorities.proofs.Counting.{from-zero}
 use Rattle.majorities.proofs.majority.most_voted.Statement.{statement}
