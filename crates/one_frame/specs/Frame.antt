@@ -9,7 +9,7 @@ use lib.Ieee.Scale.{finite}
 use Rattle.laws.specs.Every.{everyEntry}
 use Rattle.laws.specs.Turns.{turns}
 use Rattle.laws.specs.Values.{minusZero}
-use Rattle.calls.specs.Call.{Call}
+use Rattle.calls.specs.Call.{Call, secondsAt}
 use Rattle.calls.specs.declared.Settings.{Settings}
 use Rattle.goertzel.specs.Goertzel.{goertzelOf}
 use Rattle.constant_q.specs.ConstantQ.{constantQOf}

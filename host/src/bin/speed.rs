@@ -25,11 +25,11 @@ mod frames;
 #[cfg(oracle)]
 #[path = "../speed/growth.rs"]
 mod growth;
-#[cfg(oracle)]
-#[path = "../speed/leaders.rs"]
-mod leaders;
 #[path = "../speed/leaves.rs"]
 mod leaves;
+#[cfg(oracle)]
+#[path = "../speed/long_lists.rs"]
+mod long_lists;
 #[cfg(oracle)]
 #[path = "../speed/medians.rs"]
 mod medians;
@@ -88,7 +88,7 @@ const TOPICS: &[Topic] = &[
     #[cfg(oracle)]
     ("segments", segments::print_row),
     #[cfg(oracle)]
-    ("leaders", leaders::print_rows),
+    ("lists", long_lists::print_rows),
     #[cfg(oracle)]
     ("analyses", analyses::print_rows),
     #[cfg(oracle)]

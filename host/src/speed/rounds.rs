@@ -26,7 +26,12 @@ pub fn median_of(rounds: usize, time: impl Fn() -> f64) -> f64 {
 impl Pair {
     /// A round is ours, then theirs; each tells its time.
     pub fn of_times(ours: impl Fn() -> f64, theirs: impl Fn() -> f64) -> Self {
-        let rounds: Vec<(f64, f64)> = (0..ROUNDS).map(|_| (ours(), theirs())).collect();
+        Self::of_rounds(ROUNDS, ours, theirs)
+    }
+
+    /// The same of so many rounds.
+    pub fn of_rounds(rounds: usize, ours: impl Fn() -> f64, theirs: impl Fn() -> f64) -> Self {
+        let rounds: Vec<(f64, f64)> = (0..rounds).map(|_| (ours(), theirs())).collect();
         let median = |of: fn(&(f64, f64)) -> f64| middle(rounds.iter().map(of).collect());
         Self { ours: median(|r| r.0), theirs: median(|r| r.1), ratio: median(|r| r.0 / r.1) }
     }

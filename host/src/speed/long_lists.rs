@@ -1,8 +1,11 @@
-//! The majority of windows and the alternate of segments, of four keys in turn, beside the oracle's: milliseconds for one call.
+//! Long lists of four keys in turn: the majority of windows, the alternate of segments, and short segments joined to
+//! one, beside the oracle's: milliseconds for one call.
 use super::key_lime::KeySegment;
-use super::key_lime::expose::{key_from_index, majority_key, significant_alternate_key};
+use super::key_lime::expose::{
+    key_from_index, majority_key, merge_short_segments, significant_alternate_key,
+};
 use super::rounds::{Pair, header, seconds};
-use ulyptesh::probe::segments::{alternate, majority};
+use ulyptesh::probe::segments::{alternate, majority, shorten};
 use ulyptesh::segments::SegmentRows;
 
 /// As many as four hours and a day have, one every half second.
@@ -13,6 +16,11 @@ const KEYS: [u8; 4] = [0, 4, 7, 21];
 
 fn milliseconds<A, B>(ours: impl Fn() -> A, theirs: impl Fn() -> B) -> Pair {
     Pair::of_times(|| 1e3 * seconds(&ours), || 1e3 * seconds(&theirs))
+}
+
+/// The oracle moves all behind a join, so one round of the longer list has to do.
+fn one_round<A, B>(ours: impl Fn() -> A, theirs: impl Fn() -> B) -> Pair {
+    Pair::of_rounds(1, || 1e3 * seconds(&ours), || 1e3 * seconds(&theirs))
 }
 
 fn numbers(count: usize) -> Vec<u8> {
@@ -54,8 +62,26 @@ fn print_alternate(count: usize) {
     milliseconds(|| alternate(KEYS[0], 0.1, &rows), named).print(&format!("alternate of {count}"));
 }
 
+/// Every segment is short, so that one is left; both sides copy the list first.
+fn print_shortening(count: usize) {
+    const LEAST: f64 = 1e9;
+    let rows = rows(count);
+    let segments = theirs(&rows);
+    let ours = || {
+        let mut rows = rows.clone();
+        shorten(LEAST, &mut rows)
+    };
+    let theirs = || {
+        let mut segments = segments.clone();
+        merge_short_segments(&mut segments, LEAST);
+        segments.len()
+    };
+    one_round(ours, theirs).print(&format!("shortening of {count}"));
+}
+
 pub fn print_rows() {
-    header("ms for keys that lead", "oracle");
+    header("ms for a long list", "oracle");
     COUNTS.into_iter().for_each(print_majority);
     COUNTS.into_iter().for_each(print_alternate);
+    COUNTS.into_iter().for_each(print_shortening);
 }
