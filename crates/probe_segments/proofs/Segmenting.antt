@@ -19,7 +19,7 @@ use Rattle.timeline.proofs.Rooms.{room-within, estimates-within}
 use Rattle.windows.specs.Span.{spanOf, rowsAsked, windowsOf}
 use Rattle.windows.specs.declared.span.Span.{Span}
 use Rattle.windows.proofs.Spans.{windows-asked}
-use Rattle.shortening.specs.Shorten.{settled}
+use Rattle.shortening.specs.inside.Settled.{settled}
 use Rattle.segments.specs.inside.Fill.{filledOf}
 use Rattle.segments.specs.inside.Located.{LocatedIn, locatedIn, locatedOf, Prepared}
 use Rattle.segments.specs.declared.fill.Track.{Track}

@@ -16,7 +16,7 @@ use Rattle.timeline.specs.inside.Segments.{FilledRows, filledRows}
 use Rattle.windows.specs.Span.{spanOf, rowsAsked}
 use Rattle.gathering.specs.Gather.{Heard, heard}
 use Rattle.majorities.specs.Majority.{majorityOf}
-use Rattle.shortening.specs.Shorten.{settled}
+use Rattle.shortening.specs.inside.Settled.{settled}
 use Rattle.segments.specs.inside.Fill.{filledOf}
 use Rattle.segments.specs.inside.Located.{locatedOf}
 use Rattle.segments.specs.declared.fill.Track.{Track}

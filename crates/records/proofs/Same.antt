@@ -9,7 +9,8 @@ use Rattle.timeline.specs.Segments.{emptied, holdingSegments}
 use Rattle.timeline.specs.inside.Segments.{filledRows}
 use Rattle.timeline.specs.Tiling.{Tiles, NoneShort}
 use Rattle.timeline.specs.declared.segment.Segment.{Segment}
-use Rattle.shortening.specs.Shorten.{shortenedOf, leftIn, settled}
+use Rattle.shortening.specs.Shorten.{shortenedOf, leftIn}
+use Rattle.shortening.specs.inside.Settled.{settled}
 use Rattle.shortening.proofs.Settles.{left-long, none-left-short}
 use Rattle.shortening.proofs.Tiled.{shortening-tiles}
 use Rattle.records.specs.Records.{shortenedIn}

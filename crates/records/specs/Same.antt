@@ -8,7 +8,7 @@ use Rattle.timeline.specs.Segments.{SegmentRows, segmentsIn, holdingSegments}
 use Rattle.timeline.specs.inside.Segments.{filledRows}
 use Rattle.timeline.specs.Tiling.{Tiles, NoneShort}
 use Rattle.timeline.specs.declared.segment.Segment.{Segment}
-use Rattle.shortening.specs.Shorten.{settled}
+use Rattle.shortening.specs.inside.Settled.{settled}
 use Rattle.records.specs.Records.{Left, shortenedIn}
 
 -- the segments that are left

@@ -19,7 +19,8 @@ use Rattle.timeline.specs.inside.Segments.{putSegment, Room, FilledRows, filled
 use Rattle.timeline.specs.declared.segment.Segment.{Segment}
 use Rattle.timeline.proofs.Segments.{holds-start, holds-more, holds-all, segments-numbered, segments-read-back, held-again}
 use Rattle.groups.specs.Groups.{firstSegments, groupsOf}
-use Rattle.shortening.specs.Shorten.{shortenedOf, leftIn, settled}
+use Rattle.shortening.specs.Shorten.{shortenedOf, leftIn}
+use Rattle.shortening.specs.inside.Settled.{settled}
 use Rattle.shortening.proofs.Settles.{left-long}
 use Rattle.segments.specs.inside.Fill.{cutOf}
 use Rattle.segments.specs.declared.fill.Track.{Track}

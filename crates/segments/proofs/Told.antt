@@ -14,7 +14,8 @@ use Rattle.timeline.specs.declared.segment.Segment.{Segment}
 use Rattle.gathering.specs.Gather.{Heard}
 use Rattle.windows.specs.Run.{halts, estimatesOf}
 use Rattle.windows.specs.declared.span.Span.{Span}
-use Rattle.shortening.specs.Shorten.{shortenedOf, leftIn, settled}
+use Rattle.shortening.specs.Shorten.{shortenedOf, leftIn}
+use Rattle.shortening.specs.inside.Settled.{settled}
 use Rattle.segments.specs.inside.Fill.{cutOf, filledOf}
 use Rattle.segments.specs.inside.Located.{LocatedIn, locatedIn, toldIn, locatedOf}
 use Rattle.segments.specs.declared.fill.Track.{Track}

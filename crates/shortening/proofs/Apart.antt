@@ -6,11 +6,12 @@ use Prim.Native.Nat.{ℕ, zero, suc, _+_, _-_, _<_, _≤_}
 use native.Mathlib.Nat.{not-suc-le-zero, le-of-suc-le-suc}
 use native.Mathlib.Omega.{arith}
 use lib.ListN.{length, getD, set, take, drop, replicate, length-append, length-replicate, length-map, length-set}
-use lib.Seq.{length-take-le, take-suc, take-take, take-suc-set, drop-set-lt, drop-drop, getD-take, getD-drop}
-use Rattle.laws.specs.Front.{front}
+use lib.Seq.{length-take-le, take-at, take-take, take-suc-set, drop-set-lt, drop-drop, getD-take, getD-drop}
+use Rattle.laws.specs.Front.{front, list}
+use Rattle.laws.proofs.Front.{list-same, map-list, front-own}
 use Rattle.timeline.specs.Segments.{emptied, segmentAt}
 use Rattle.timeline.specs.declared.segment.Segment.{Segment}
-use Rattle.shortening.specs.Gap.{emptiedColumn}
+use Rattle.shortening.specs.inside.Gap.{emptiedColumn}
 
 pub record Apart {A : Type 0} (f : Segment → A) (kept : List Segment) (next : ℕ) (m₀ m : List A) : Type 0 where
   pub first : take (length kept) m ≡ map f kept
@@ -32,9 +33,18 @@ module _ {A : Type 0} (f : Segment → A) where
   map-replicate zero s = refl
   map-replicate (suc k) s = ap (λ (l : List A). f s ∷ l) (map-replicate k s)
 
-  -- the first entry alone
-  pub apart-start : (s : Segment) (m : List A) (d : A) → 0 < length m → f s ≡ getD m 0 d → Apart f (s ∷ []) 1 m m
-  apart-start s m d h e = record { first = take-suc m 0 d h ∙ ap (λ (x : A). x ∷ []) (sym e); rest = refl; long = refl }
+  -- a column's own entries change nothing, so the first ones stand before a gap that is not there yet
+  module _ (g : ℕ → Segment) (n : ℕ) (m : List A) (d : A) (h : n ≤ length m) (same : (k : ℕ) → k < n → f (g k) ≡ getD m k d) where
+    pub apart-own : front (map f (list g n)) m ≡ m
+    apart-own = ap (λ (l : List A). front l m) (map-list f g n ∙ list-same (λ (k : ℕ). f (g k)) (λ (k : ℕ). getD m k d) n same) ∙ sym (front-own m n d h)
+
+    pub apart-start : Apart f (list g n) n m m
+    apart-start =
+        record {
+          first = ap (take (length (list g n))) (sym apart-own) ∙ take-at (map f (list g n)) (drop (length (map f (list g n))) m) (length (list g n)) (length-map (list g n) f);
+          rest = refl;
+          long = refl;
+        }
 
   module _ (kept : List Segment) (next : ℕ) {m₀ m : List A} (a : Apart f kept next m₀ m) where
     pub apart-put : (p next' : ℕ) (x : Segment) → p ≤ length kept → p < next' → next ≤ next' → p < length m₀ → Apart f (take p kept ++ (x ∷ [])) next' m₀ (set m p (f x))

@@ -10,7 +10,7 @@ use Rattle.timeline.specs.Segments.{emptied, SegmentRows}
 use Rattle.timeline.specs.inside.Segments.{putSegment, Room}
 use Rattle.timeline.specs.declared.segment.Segment.{Segment}
 use Rattle.timeline.proofs.Segments.{same-rows}
-use Rattle.shortening.specs.Gap.{emptiedColumn, emptiedRows}
+use Rattle.shortening.specs.inside.Gap.{emptiedColumn, emptiedRows}
 use Rattle.shortening.proofs.Settles.{one-more}
 
 -- the entries of m₀ from `from` up to i are x

@@ -8,13 +8,14 @@ use Prim.Native.Nat.{ℕ, suc, _+_, _-_, _<_, _≤_}
 use native.Mathlib.Nat.{eq-or-lt-of-le, add-zero}
 use native.Mathlib.Omega.{arith}
 use lib.Dec.{T, eqb}
-use lib.ListN.{length, take, drop, replicate, length-append, length-drop, List·getD-append}
+use lib.ListN.{length, getD, take, drop, replicate, length-append, length-drop, List·getD-append}
 use lib.Seq.{length-take-le, take-length, take-append-le, drop-at, drop-append-add, drop-cons, drop-drop, drop-length, append-snoc, getD-take, getD-drop, getD-append-add}
 use lib.Ieee.{Float, nan, le}
 use borrow.Author.Tests.{eq-eqb, ne-eqb}
-use Rattle.laws.specs.Front.{list}
+use Rattle.laws.specs.Front.{front}
 use Rattle.laws.proofs.Cases.{by-test}
-use Rattle.laws.proofs.Front.{length-list}
+use Rattle.laws.proofs.First.{first-before}
+use Rattle.laws.proofs.Front.{length-list, list-same, front-own}
 use Rattle.keys.specs.Numbers.{keyNumber, keyAt}
 use Rattle.keys.proofs.Placed.{numbers-are-keys}
 use Rattle.timeline.specs.inside.Estimates.{Numbered}
@@ -22,10 +23,11 @@ use Rattle.timeline.specs.Segments.{emptied, seconds, short, joined, segment, s
 use Rattle.timeline.specs.inside.Segments.{putSegment, Room, FilledRows, filledRows}
 use Rattle.timeline.specs.declared.segment.Segment.{Segment}
 use Rattle.timeline.proofs.Segments.{segment-there, same-rows}
-use Rattle.shortening.specs.Shorten.{firstShort, keeper, joinAt, joinShort, unsettled, shorten, shortenedOf, leftIn, settled}
-use Rattle.shortening.specs.Gap.{prefersBack, joinsBack, joinedRows, takenIn, emptiedRows}
-use Rattle.shortening.proofs.Settles.{firstShort-at, to-join, few-settled, none-to-join, shortened-join, stays}
-use Rattle.shortening.proofs.Apart.{Apart, apart-start, apart-put, apart-kept, apart-rest, apart-end}
+use Rattle.shortening.specs.Shorten.{firstShort, keeper, joinAt, joinShort, unsettled, shortenedOf, leftIn}
+use Rattle.shortening.specs.inside.Settled.{settled}
+use Rattle.shortening.specs.inside.Gap.{prefersBack, joinsBack, joinedRows, takenIn, emptiedRows}
+use Rattle.shortening.proofs.Settles.{firstShort-within, firstShort-at, to-join, few-settled, long-settled, none-to-join, shortened-join, stays}
+use Rattle.shortening.proofs.Apart.{Apart, apart-own, apart-start, apart-put, apart-kept, apart-rest, apart-end}
 
 both : (a b : Bool) → (a && b) ≡ true → (a ≡ true) × (b ≡ true)
 both true b e = (refl, e)
@@ -99,10 +101,35 @@ taken-few least done next rows e =
     let few : takenIn least done next rows .count ≤ done + 1 = by-test (λ (f : FilledRows). f .count ≤ done + 1) (short least (segmentIn rows (done - 1))) (λ _. omega arith) (λ _. omega arith) in
     omega (arith, count, few)
 
--- no rows, no segments
-pub settled-none : (least : Float) {count : ℕ} (before : SegmentRows) → count ≡ 0 → filledRows 0 before ≡ settled least (segmentsIn before count) before
-unfolding list shorten shortenedOf leftIn
-settled-none least before e = subst (λ (n : ℕ). filledRows 0 before ≡ settled least (segmentsIn before n) before) (sym e) refl
+-- ---- what the rows hold from the start
+module _ {count : ℕ} {before : SegmentRows} (room : Room before count) (numbered : Numbered (before .keys) count) where
+  key-own : (i : ℕ) → i < count → keyNumber (segmentIn before i .key) ≡ getD (before .keys) i 0
+  unfolding segmentIn
+  key-own i h = numbers-are-keys .number-back _ (numbered i h)
+
+  -- the rows' own segments change nothing
+  held-own : holdingSegments (segmentsIn before count) before ≡ before
+  unfolding segmentIn
+  held-own =
+      same-rows
+      (apart-own _ _ count _ nan (room .starts) (λ k h. refl))
+      (apart-own _ _ count _ nan (room .ends) (λ k h. refl))
+      (apart-own _ _ count _ 0 (room .keys) key-own)
+      (apart-own _ _ count _ nan (room .confidences) (λ k h. refl))
+
+  -- none is short: they stay as they are
+  pub settled-none : (least : Float) {found : ℕ} → found ≡ firstShort least (segmentsIn before count) → found ≡ count → filledRows count before ≡ settled least (segmentsIn before count) before
+  unfolding leftIn shortenedOf
+  settled-none least f e =
+      let segments = segmentsIn before count in
+      let long : length segments ≡ count = length-list (segmentIn before) count in
+      let same : segments ≡ shortenedOf least segments = sym (stays (length segments) least segments (long-settled least segments (omega (arith, long, f, e)))) in
+      let none : length segments - length segments ≡ 0 = omega arith in
+      ap (filledRows count) (sym held-own)
+      ∙ ap (λ (n : ℕ). filledRows n (holdingSegments segments before)) (sym long)
+      ∙ ap (λ (l : List Segment). filledRows (length segments) (holdingSegments l before)) (sym (append-nil segments))
+      ∙ ap (λ (n : ℕ). filledRows (length segments) (holdingSegments (segments ++ replicate n emptied) before)) (sym none)
+      ∙ ap (λ (l : List Segment). filledRows (length l) (holdingSegments (l ++ replicate (length segments - length l) emptied) before)) same
 
 -- The loop has come to a gap: `done` segments are kept before it, and those from `next` on are unread.
 pub record Gap (least : Float) (count : ℕ) (before now : SegmentRows) (done next : ℕ) : Type 0 where
@@ -119,25 +146,35 @@ pub record Gap (least : Float) (count : ℕ) (before now : SegmentRows) (done ne
   pub keys : Apart (λ (s : Segment). keyNumber (s .key)) kept next (before .keys) (now .keys)
   pub confidences : Apart (λ (s : Segment). s .confidence) kept next (before .confidences) (now .confidences)
 
-pub gap-start : (least : Float) {count : ℕ} {before : SegmentRows} → Room before count → Numbered (before .keys) count → 0 < count → Gap least count before before 1 1
-unfolding segmentIn
-gap-start least {count} {before} room numbered h =
+-- a short one is found
+pub found-there : (least : Float) {count found : ℕ} (before : SegmentRows) → found ≡ firstShort least (segmentsIn before count) → (found ≡ count → ⊥) → found < count
+found-there least {count} before f inside =
+    let within = firstShort-within least (segmentsIn before count) in
+    omega (arith, f, inside, within, length-list (segmentIn before) count)
+
+-- those before it are kept, and it is the last of them
+pub gap-start : {least : Float} {count found : ℕ} {before : SegmentRows} → Room before count → Numbered (before .keys) count → found ≡ firstShort least (segmentsIn before count) → (found ≡ count → ⊥) → Gap least count before before (found + 1) (found + 1)
+unfolding firstShort segmentIn
+gap-start {least} {count} {found} {before} room numbered f inside =
     let segments = segmentsIn before count in
-    let some : 0 < length segments = rw (length-list (segmentIn before) count) h in
-    let all : segments ≡ segmentIn before 0 ∷ drop 1 segments = drop-cons segments 0 emptied some ∙ ap (λ (s : Segment). s ∷ drop 1 segments) (segment-there before count 0 h) in
+    let long : length segments ≡ count = length-list (segmentIn before) count in
+    let there = found-there least before f inside in
+    let here : (k : ℕ) → k < found + 1 → segmentIn before k ≡ segmentAt segments k = λ k h. sym (segment-there before count k (omega (arith, h, there))) in
+    let kept = segmentsIn before (found + 1) in
+    let kept-long : length kept ≡ found + 1 = length-list (segmentIn before) (found + 1) in
     record {
-      kept = segmentIn before 0 ∷ [];
-      many = refl;
+      kept = kept;
+      many = kept-long;
       some = omega arith;
       apart = omega arith;
-      upto = omega arith;
-      fine = λ i less. absurd (omega (arith, less));
-      ahead = ap (shortenedOf least) (sym all);
+      upto = omega (arith, there);
+      fine = λ i less. ap (short least) (segment-there before (found + 1) i (omega (arith, less)) ∙ here i (omega (arith, less))) ∙ first-before (λ (k : ℕ). short least (segmentAt segments k)) (length segments) 0 i (omega arith) (omega (arith, less, f));
+      ahead = ap (shortenedOf least) (ap (λ (n : ℕ). kept ++ drop n segments) (sym kept-long) ∙ ap (λ (l : List Segment). front l segments) (list-same (segmentIn before) (λ (k : ℕ). segmentAt segments k) (found + 1) here) ∙ sym (front-own segments (found + 1) emptied (omega (arith, long, there))));
       room = room;
-      starts = apart-start _ _ _ nan (omega (arith, room .starts)) refl;
-      ends = apart-start _ _ _ nan (omega (arith, room .ends)) refl;
-      keys = apart-start _ _ _ 0 (omega (arith, room .keys)) (numbers-are-keys .number-back _ (numbered 0 h));
-      confidences = apart-start _ _ _ nan (omega (arith, room .confidences)) refl;
+      starts = apart-start _ _ _ _ nan (omega (arith, room .starts, there)) (λ k h. refl);
+      ends = apart-start _ _ _ _ nan (omega (arith, room .ends, there)) (λ k h. refl);
+      keys = apart-start _ _ _ _ 0 (omega (arith, room .keys, there)) (λ k h. key-own room numbered k (omega (arith, h, there)));
+      confidences = apart-start _ _ _ _ nan (omega (arith, room .confidences, there)) (λ k h. refl);
     }
 
 module _ {least : Float} {count : ℕ} {before now : SegmentRows} {done next : ℕ} (g : Gap least count before now done next) where

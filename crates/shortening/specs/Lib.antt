@@ -1,3 +1,3 @@
 pub mod Shorten
 pub mod Ends
-pub mod Gap
+pub mod inside

@@ -6,8 +6,7 @@ use lib.ListN.{length, take, drop, replicate}
 use lib.Dec.{ltb, eqb}
 use lib.Ieee.{Float, le}
 use Rattle.laws.specs.First.{first}
-use Rattle.timeline.specs.Segments.{emptied, seconds, short, joined, segmentAt, SegmentRows, holdingSegments}
-use Rattle.timeline.specs.inside.Segments.{FilledRows, filledRows}
+use Rattle.timeline.specs.Segments.{emptied, seconds, short, joined, segmentAt}
 use Rattle.timeline.specs.declared.segment.Segment.{Segment}
 
 -- where the first short segment stands: their number where none is short
@@ -45,7 +44,3 @@ shortenedOf least segments = shorten (length segments) least segments
 -- what the rows hold after that: the rows that joining emptied follow
 unfoldable pub leftIn : Float → List Segment → List Segment
 leftIn least segments = shortenedOf least segments ++ replicate (length segments - length (shortenedOf least segments)) emptied
-
--- shortened, with the emptied rows behind them
-abbrev pub settled : Float → List Segment → SegmentRows → FilledRows
-settled least segments before = filledRows (length (shortenedOf least segments)) (holdingSegments (leftIn least segments) before)

@@ -6,14 +6,39 @@ ghost use Prim.Native.Nat.{_+_, _<_, _≤_};
 ghost use Rattle.timeline.specs.inside.Estimates.{Numbered};
 ghost use Rattle.timeline.specs.Segments.{lentSegments, segmentsIn};
 ghost use Rattle.timeline.specs.inside.Segments.{Room, filledRows};
-ghost use Rattle.shortening.specs.Shorten.{settled};
-ghost use Rattle.shortening.specs.Gap.{joinsBack, joinedRows, takenIn, emptiedRows};
+ghost use Rattle.shortening.specs.Shorten.{firstShort};
+ghost use Rattle.shortening.specs.inside.Settled.{settled};
+ghost use Rattle.shortening.specs.inside.Gap.{joinsBack, joinedRows, takenIn, emptiedRows};
 use timeline::segment::emptied_segment;
 use timeline::segment::is_short;
 use timeline::segment::join_segments;
 use timeline::segment::put_segment;
 use timeline::segment::segment_at;
 use timeline::segment::segment_seconds;
+
+// Where the first short segment stands: the count where none is short.
+fn first_short(
+    least: f64,
+    count: usize,
+    starts: &[f64],
+    ends: &[f64],
+    keys: &[u8],
+    confidences: &[f32],
+) -> usize
+    requires { ⌜ Room (lentSegments starts ends keys confidences) count ⌝ }
+    ensures { λ r. ⌜ r ≡ firstShort least (segmentsIn (lentSegments (starts .entry) (ends .entry) (keys .entry) (confidences .entry)) count) ⌝ }
+{
+    let mut i = 0;
+    loop {
+        if i >= count {
+            break count;
+        }
+        if is_short(least, segment_at(i, starts, ends, keys, confidences)) {
+            break i;
+        }
+        i += 1;
+    }
+}
 
 // Whether the last of the first `done` segments is short and joins the one before it; `next` is the row of the one behind it.
 fn joins_back(
@@ -126,11 +151,13 @@ pub fn shorten_segments(
     requires { ⌜ Room (lentSegments starts ends keys confidences) count × Numbered (now keys) count ⌝ }
     ensures { λ r. ⌜ filledRows r (lentSegments (starts .exit) (ends .exit) (keys .exit) (confidences .exit)) ≡ settled least (segmentsIn (lentSegments (starts .entry) (ends .entry) (keys .entry) (confidences .entry)) count) (lentSegments (starts .entry) (ends .entry) (keys .entry) (confidences .entry)) ⌝ }
 {
-    if count == 0 {
-        return 0;
+    let first = first_short(least, count, starts, ends, keys, confidences);
+    // none is short: the rows stay as they are
+    if first == count {
+        return count;
     }
-    let mut done = 1;
-    let mut next = 1;
+    let mut done = first + 1;
+    let mut next = first + 1;
     loop {
         if joins_back(least, done, next, count, starts, ends, keys, confidences) {
             done = done - 1;

@@ -4,7 +4,8 @@ use Rattle.timeline.specs.declared.estimate.Estimate.{Estimate}
 use Rattle.timeline.specs.Segments.{SegmentRows}
 use Rattle.timeline.specs.inside.Segments.{FilledRows}
 use Rattle.groups.specs.Groups.{firstSegments}
-use Rattle.shortening.specs.Shorten.{shortenedOf, settled}
+use Rattle.shortening.specs.Shorten.{shortenedOf}
+use Rattle.shortening.specs.inside.Settled.{settled}
 use Rattle.segments.specs.declared.fill.Track.{Track}
 use Rattle.timeline.specs.declared.segment.Segment.{Segment}
 

@@ -2,25 +2,55 @@
 use mathlib.Core.Path.{refl, _∙_}
 use Prim.Native.Nat.{_+_, _-_}
 use native.Mathlib.Omega.{arith}
-use borrow.Author.Needs.{needs}
 use Rattle.timeline.specs.inside.Segments.{segmentRows}
-use Rattle.shortening.proofs.Shortens.{settled-none, taken-few, Gap, gap-start, now-room, back-two, back-room, more-room, gap-back, gap-more, gap-end}
+use Rattle.shortening.proofs.Shortens.{settled-none, taken-few, found-there, Gap, gap-start, now-room, back-two, back-room, more-room, gap-back, gap-more, gap-end}
 use Rattle.shortening.proofs.shorten.shorten_segments.Statement.{statement}
 use Rattle.shortening.proofs.shorten.shorten_segments.Tie as tie
 
 abbrev Inv-loop : tie.InvT-loop
-Inv-loop least count starts₀ ends₀ keys₀ confidences₀ done₀ next₀ starts ends keys confidences done next =
+Inv-loop least count starts₀ ends₀ keys₀ confidences₀ first done₀ next₀ starts ends keys confidences done next =
     Gap least count (segmentRows starts₀ ends₀ keys₀ confidences₀) (segmentRows starts ends keys confidences) done next
 
 abbrev μ-loop : tie.MeasureT-loop
-μ-loop least count starts₀ ends₀ keys₀ confidences₀ done₀ next₀ starts ends keys confidences done next =
+μ-loop least count starts₀ ends₀ keys₀ confidences₀ first done₀ next₀ starts ends keys confidences done next =
     count - next + (count - next) + done
 
+first-short-requires : tie.Need-first-short-requires Inv-loop μ-loop
+first-short-requires c κs = c .before .before .before .before .before .before .before .before .pre .0
+
+same-length : tie.Need-same-length Inv-loop μ-loop
+same-length c = refl
+
+same-length-2 : tie.Need-same-length-2 Inv-loop μ-loop
+same-length-2 c = refl
+
+same-length-3 : tie.Need-same-length-3 Inv-loop μ-loop
+same-length-3 c = refl
+
+same-length-4 : tie.Need-same-length-4 Inv-loop μ-loop
+same-length-4 c = refl
+
 returns : tie.Need-returns Inv-loop μ-loop
-returns c = settled-none _ _ (c .if1 .taken)
+returns c =
+    let search = c .before in
+    let start = search .before .before .before .before .before .before .before .before .before in
+    settled-none (start .pre .0) (start .pre .1) _ (search .first-short .ensures) (c .if1 .taken)
+
+add-done : tie.Need-add-done Inv-loop μ-loop
+add-done c =
+    let search = c .before in
+    let start = search .before .before .before .before .before .before .before .before .before in
+    let there = found-there _ _ (search .first-short .ensures) (c .if1 .left) in
+    omega (arith, start .fits .count, there)
+
+add-next : tie.Need-add-next Inv-loop μ-loop
+add-next c = add-done c
 
 loop-holds : tie.Need-loop-holds Inv-loop μ-loop
-loop-holds c = let start = c .before .before .before .before .before in gap-start _ (start .pre .0) (start .pre .1) (omega arith)
+loop-holds c =
+    let search = c .before in
+    let start = search .before .before .before .before .before .before .before .before .before in
+    gap-start (start .pre .0) (start .pre .1) (search .first-short .ensures) (c .if1 .left)
 
 joins-back-requires : tie.Need-joins-back-requires Inv-loop μ-loop
 joins-back-requires c κs = let gap = c .before .before .before .before .loop .inv in (gap .some, gap .apart, gap .upto, now-room gap)
@@ -49,11 +79,12 @@ loop-again c =
 take-in-requires : tie.Need-take-in-requires Inv-loop μ-loop
 take-in-requires c κs = let inside = c .before .before .before .before in let gap = inside .before .before .before .before .before .before .before .loop .inv in (gap .some, gap .apart, more-room gap (inside .if3 .left))
 
-add-next : tie.Need-add-next Inv-loop μ-loop
-add-next c =
+add-next-2 : tie.Need-add-next-2 Inv-loop μ-loop
+add-next-2 c =
     let inside = c .before .before .before .before .before .before .before .before .before .before .before .before .before in
-    let gap = inside .before .before .before .before .before .before .before .loop .inv in
-    search needs
+    let loop = inside .before .before .before .before .before .before .before in
+    let start = loop .before .before .before .before .before .before .before .before .before .before .before in
+    omega (arith, start .fits .count, loop .loop .inv .upto, inside .if3 .left)
 
 loop-less-2 : tie.Need-loop-less-2 Inv-loop μ-loop
 loop-less-2 c =
@@ -73,17 +104,17 @@ loop-again-2 c =
 empty-rows-requires : tie.Need-empty-rows-requires Inv-loop μ-loop
 empty-rows-requires c κs = let gap = c .before .before .before .before .before .before .before .before .before .before .before .loop .inv in (omega (arith, gap .apart, gap .upto), now-room gap)
 
-same-length : tie.Need-same-length Inv-loop μ-loop
-same-length c = let emptied = c .before .before .before .before .before .before .before .before in emptied .empty-rows .kept .1 .1 .0 ∙ emptied .before .before .before .before .before .before .before .before .before .before .before .before .loop .inv .starts .long
+same-length-5 : tie.Need-same-length-5 Inv-loop μ-loop
+same-length-5 c = let emptied = c .before .before .before .before .before .before .before .before in emptied .empty-rows .kept .1 .1 .0 ∙ emptied .before .before .before .before .before .before .before .before .before .before .before .before .loop .inv .starts .long
 
-same-length-2 : tie.Need-same-length-2 Inv-loop μ-loop
-same-length-2 c = let emptied = c .before .before .before .before .before .before .before .before in emptied .empty-rows .kept .1 .1 .1 .0 ∙ emptied .before .before .before .before .before .before .before .before .before .before .before .before .loop .inv .ends .long
+same-length-6 : tie.Need-same-length-6 Inv-loop μ-loop
+same-length-6 c = let emptied = c .before .before .before .before .before .before .before .before in emptied .empty-rows .kept .1 .1 .1 .0 ∙ emptied .before .before .before .before .before .before .before .before .before .before .before .before .loop .inv .ends .long
 
-same-length-3 : tie.Need-same-length-3 Inv-loop μ-loop
-same-length-3 c = let emptied = c .before .before .before .before .before .before .before .before in emptied .empty-rows .kept .1 .1 .1 .1 .0 ∙ emptied .before .before .before .before .before .before .before .before .before .before .before .before .loop .inv .keys .long
+same-length-7 : tie.Need-same-length-7 Inv-loop μ-loop
+same-length-7 c = let emptied = c .before .before .before .before .before .before .before .before in emptied .empty-rows .kept .1 .1 .1 .1 .0 ∙ emptied .before .before .before .before .before .before .before .before .before .before .before .before .loop .inv .keys .long
 
-same-length-4 : tie.Need-same-length-4 Inv-loop μ-loop
-same-length-4 c = let emptied = c .before .before .before .before .before .before .before .before in emptied .empty-rows .kept .1 .1 .1 .1 .1 .0 ∙ emptied .before .before .before .before .before .before .before .before .before .before .before .before .loop .inv .confidences .long
+same-length-8 : tie.Need-same-length-8 Inv-loop μ-loop
+same-length-8 c = let emptied = c .before .before .before .before .before .before .before .before in emptied .empty-rows .kept .1 .1 .1 .1 .1 .0 ∙ emptied .before .before .before .before .before .before .before .before .before .before .before .before .loop .inv .confidences .long
 
 returns-2 : tie.Need-returns-2 Inv-loop μ-loop
 returns-2 c =
@@ -98,7 +129,14 @@ shorten-segments-spec =
     (tie.spec
     Inv-loop
     μ-loop
+    first-short-requires
+    same-length
+    same-length-2
+    same-length-3
+    same-length-4
     returns
+    add-done
+    add-next
     loop-holds
     joins-back-requires
     sub-done
@@ -107,12 +145,12 @@ shorten-segments-spec =
     loop-less
     loop-again
     take-in-requires
-    add-next
+    add-next-2
     loop-less-2
     loop-again-2
     empty-rows-requires
-    same-length
-    same-length-2
-    same-length-3
-    same-length-4
+    same-length-5
+    same-length-6
+    same-length-7
+    same-length-8
     returns-2)

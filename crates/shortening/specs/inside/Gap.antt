@@ -1,4 +1,4 @@
--- Only for the code's own steps: no promise names it. Rows with a gap: the first `done` hold the segments looked at, and those from `next` up to the count are unread.
+-- Rows with a gap: the first `done` hold the segments looked at, and those from `next` up to the count are unread. No promise names it. Definitions only.
 use Prim.Native.Nat.{ℕ, _+_, _-_}
 use mathlib.Core.Bool.{Bool, true, false, _&&_, cond}
 use mathlib.Core.List.{List, _++_}

@@ -1,0 +1,3 @@
+-- What only the code's own steps need: no promise names it.
+pub mod Gap
+pub mod Settled
