@@ -10,7 +10,7 @@ sum-of-twelve-requires c κs = search needs
 
 returns : tie.Need-returns
 unfolding faint ofBits
-returns c = cc
+returns c = rw (c .sum-of-twelve .ensures)
 
 pub is-faint-spec : {M : Type 1} → statement M
 is-faint-spec = tie.close (tie.spec sum-of-twelve-requires returns)

@@ -15,7 +15,7 @@ normalize-chroma-requires c κs = search needs
 
 returns : tie.Need-returns
 unfolding tunedOf
-returns c = cc
+returns c = rw (c .normalize-chroma .ensures, c .before .before .retune-chroma .ensures, c .before .before .before .estimate-tuning .ensures)
 
 pub tune-medians-spec : {M : Type 1} → statement M
 tune-medians-spec =
