@@ -1,6 +1,6 @@
 // Shortening: while several segments are left, the first that is shorter than the minimum joins a neighbour.
-// No segment before the first short one is short, so the search never goes back: rows before a gap are settled but perhaps for the last, and rows behind
-// it are unread.
+// No segment before the first short one is short, so joining begins there and the search is done once: after that, rows before a gap are settled but
+// perhaps for the last, and rows behind it are unread.
 ghost use mathlib.Core.Path.{_≡_};
 ghost use Prim.Native.Nat.{_+_, _<_, _≤_};
 ghost use Rattle.timeline.specs.inside.Estimates.{Numbered};
