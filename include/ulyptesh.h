@@ -93,7 +93,7 @@ typedef struct UlypteshScoresResult {
     uint32_t refusal;
 } UlypteshScoresResult;
 
-/* The key of a chroma. Refused: key 24 and zeros. A chroma with a NaN or an infinity, or whose sums overflow, has NaNs
+/* The key of a chroma. Refused: key 24 and zeros. A chroma with a NaN or an infinity, or whose sum overflows, has NaNs
    for scores: the key is then C major. */
 typedef struct UlypteshKeyResult {
     uint32_t refusal;
