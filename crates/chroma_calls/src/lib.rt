@@ -1,4 +1,4 @@
-// The calls on a chroma, whole: the 24 scores, and the key with its best and second score.
+// The calls on a chroma, whole: the 24 scores, and the key with the highest and the second of them.
 ghost use mathlib.Core.Path.{_≡_};
 ghost use Prim.Native.Nat.{_≤_};
 ghost use lib.ListN.{length};
@@ -69,7 +69,7 @@ pub fn scores_of_chroma(chroma: &[f32], out: &mut [f32]) -> ScoresResult
     ScoresResult { refusal: 0 }
 }
 
-// The key of a chroma with its best and second score and its confidence. Refusal 18: a chroma not of
+// The key of a chroma, the highest and the second score and the confidence. Refusal 18: a chroma not of
 // 12 numbers.
 pub fn key_of_chroma(chroma: &[f32]) -> KeyResult
     ensures { λ r. ⌜ r ≡ keyCall (now (chroma .entry)) ⌝ }

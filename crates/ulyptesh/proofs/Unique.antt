@@ -1,6 +1,6 @@
 -- Each promise is an equality, so it allows one outcome.
 use mathlib.Core.Path.{sym, _∙_}
-use Rattle.ulyptesh.specs.Unique.{ScoresUnique, KeyUnique, KeyNameUnique, CardUnique, FramesUnique, AnalyseUnique}
+use Rattle.ulyptesh.specs.Unique.{ScoresUnique, KeyUnique, KeyNameUnique, CardUnique, FramesUnique, AnalyseUnique, AbiUnique}
 
 pub scores-unique : ScoresUnique
 scores-unique chroma places a b p q = p ∙ sym q
@@ -19,3 +19,6 @@ frames-unique c lent a b p q = p ∙ sym q
 
 pub analyse-unique : AnalyseUnique
 analyse-unique c lent a b p q = p .outcome-is ∙ sym (q .outcome-is)
+
+pub abi-unique : AbiUnique
+abi-unique a b p q = p ∙ sym q

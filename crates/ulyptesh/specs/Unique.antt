@@ -14,6 +14,7 @@ use Rattle.frames_call.specs.FramesOnly.{FramesOutcome, framesOnly}
 use Rattle.card_judge.specs.Analysed.{Analysis}
 use Rattle.card_call.specs.Cards.{cardCall}
 use Rattle.ulyptesh.specs.Analysis.{Promised}
+use Rattle.ulyptesh.specs.Interface.{interfaceNumber}
 
 -- any two outcomes that a promise allows are equal
 abbrev pub OneOutcome : {O : Type 0} → (O → Type 0) → Type 0
@@ -42,3 +43,7 @@ FramesUnique = (c : Call) (lent : Rows) → OneOutcome (λ (o : FramesOutcome). 
 -- of `ulyptesh_analyse`, for every input
 abbrev pub AnalyseUnique : Type 0
 AnalyseUnique = (c : Call) (lent : Lent) → OneOutcome (Promised c lent)
+
+-- of `ulyptesh_abi`, which takes no input
+abbrev pub AbiUnique : Type 0
+AbiUnique = OneOutcome (λ (o : ℕ). o ≡ interfaceNumber)

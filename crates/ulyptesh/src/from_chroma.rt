@@ -1,4 +1,4 @@
-// The calls on a chroma: the 24 scores, and the key with its best and second score.
+// The calls on a chroma: the 24 scores, and the key with the highest and the second of them.
 ghost use mathlib.Core.Path.{_≡_};
 ghost use Rattle.chroma_calls.specs.FromChroma.{scoresOutcome, scoresCall, keyCall};
 use chroma_calls::KeyResult;
@@ -15,7 +15,7 @@ pub extern "C" fn ulyptesh_scores(chroma: &[f32], out: &mut [f32]) -> ScoresResu
     scores_of_chroma(chroma, out)
 }
 
-// The key of a chroma with its best and second score and its confidence. Refusal 18: a chroma not of
+// The key of a chroma, the highest and the second score and the confidence. Refusal 18: a chroma not of
 // 12 numbers.
 #[no_mangle]
 pub extern "C" fn ulyptesh_key(chroma: &[f32]) -> KeyResult

@@ -4,4 +4,5 @@ pub mod analysis_of_track;
 pub mod cards;
 pub mod frames_only;
 pub mod from_chroma;
+pub mod interface;
 pub mod names;
