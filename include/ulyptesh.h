@@ -1,8 +1,16 @@
-/* Ulyptesh: the musical key of a track. Link with libulyptesh.a, on a 64-bit machine.
+/* Ulyptesh: the musical key of a track. For Linux on x86-64 (System V ABI) and on aarch64 (AAPCS64). Link with
+   libulyptesh.a, or with libulyptesh.so where host/install has put one.
 
-   The library allocates nothing, keeps no pointer and has no state. A slice is a pointer and a count of entries. A
-   slice that is written to overlaps no other. "From the front" means: entry 0 first, and all entries behind those that
-   are written stay as they were. An analysis takes up to 96 KiB of the caller's stack.
+   The calls are proved for one floating-point environment: round to nearest, ties to even, with subnormal numbers kept
+   (neither flush to zero nor denormals are zero). A program starts so, and a thread starts as the one that made it was.
+   Audio hosts often set flush to zero on their audio threads, and -ffast-math may set it for a whole program: whoever
+   sets it must reset it around a call. The library neither reads nor sets it.
+
+   The library allocates nothing, keeps no pointer and has no state. A slice is a pointer and a count of entries, and
+   may be NULL where the count is 0. A slice that is written to overlaps no other, and the answer overlaps no slice. A
+   sheet is only read, so threads may share one; each thread lends rows of its own. "From the front" means: entry 0
+   first, and all entries behind those that are written stay as they were. An analysis takes up to 96 KiB of the
+   caller's stack.
 
    An answer of more than 16 bytes is written behind the call's first pointer, which the call also returns.
 
@@ -13,10 +21,17 @@
 #include <stddef.h>
 #include <stdint.h>
 
+#if SIZE_MAX != 0xffffffffffffffff
+#error "ulyptesh.h: the library is for machines whose size_t has 64 bits"
+#endif
+
 #ifdef __cplusplus
 extern "C" {
 #endif
 
+/* The number of the interface that this header declares; it grows whenever a struct, a parameter or a meaning changes.
+   A program that loads the library at run time compares it with what ulyptesh_abi answers. */
+#define ULYPTESH_ABI 1
 /* Numbers in a chroma, from C upward. */
 #define ULYPTESH_PITCH_CLASSES 12
 /* Keys, and so scores of a chroma. */
@@ -81,7 +96,7 @@ typedef struct UlypteshSettings {
 
 /* What a table sheet was made for: the call's rate, notes and frame size. Row k of a sheet is for the lowest note plus
    k. A sheet is well formed where its slices have the lengths and entries that are told at the calls, and has no more
-   rows of either kind than notes. examples/c/analyse.c makes one. */
+   rows of either kind than notes. examples/c/ulyptesh_easy.c makes one. */
 typedef struct UlypteshSheetHead {
     uint32_t rate;
     uint8_t minimum_midi_note, maximum_midi_note;
@@ -93,13 +108,15 @@ typedef struct UlypteshScoresResult {
     uint32_t refusal;
 } UlypteshScoresResult;
 
-/* The key of a chroma. Refused: key 24 and zeros. A chroma with a NaN or an infinity, or whose sum overflows, has NaNs
-   for scores: the key is then C major. */
+/* The key of a chroma: the one with the highest score, or its relative key where that one is second by at most 0.05 and
+   its tonic is more than 1.2 times as strong. Refused: key 24 and zeros. Where no score is a number, as for a chroma
+   with a NaN or an infinity or one whose sum overflows, the key is C major. */
 typedef struct UlypteshKeyResult {
     uint32_t refusal;
     uint32_t key;
-    float best, second; /* the best score and the second; -infinity where the scores are NaNs */
-    float confidence; /* from 0 to 1; a NaN where the scores are NaNs */
+    float best; /* the highest of the 24 scores: where the relative key is taken, not its own but the other key's */
+    float second; /* the next one; as best it leaves NaNs out, and is -infinity where no score is left */
+    float confidence; /* in the highest score over the next one, from 0 to 1; a NaN where no score is a number */
 } UlypteshKeyResult;
 
 /* length: how many bytes were written; 0 where the call is refused. */
@@ -196,13 +213,12 @@ UlypteshWritten ulyptesh_write_card(
     const float *confidences, size_t confidence_count, /* as many */
     uint8_t *bytes, size_t byte_count); /* ULYPTESH_CARD_BYTES of the segments; the card, from the front */
 
-/* The library was compiled for structs of these sizes. */
-#if defined(__cplusplus) && __cplusplus >= 201103L
-#define ULYPTESH_IS_OF(type, bytes) static_assert(sizeof(type) == (bytes), #type " has another size in the library")
-#elif defined(__STDC_VERSION__) && __STDC_VERSION__ >= 201112L
-#define ULYPTESH_IS_OF(type, bytes) _Static_assert(sizeof(type) == (bytes), #type " has another size in the library")
-#endif
-#ifdef ULYPTESH_IS_OF
+/* The number of the library's interface: ULYPTESH_ABI where this header is the library's own. */
+uint32_t ulyptesh_abi(void);
+
+/* The library was compiled for structs of these sizes: with another one this header does not compile. */
+#define ULYPTESH_IS_OF(type, bytes) \
+    typedef char type##_has_another_size_in_the_library[sizeof(type) == (bytes) ? 1 : -1]
 ULYPTESH_IS_OF(UlypteshSettings, 48);
 ULYPTESH_IS_OF(UlypteshSheetHead, 16);
 ULYPTESH_IS_OF(UlypteshScoresResult, 4);
@@ -211,7 +227,6 @@ ULYPTESH_IS_OF(UlypteshWritten, 16);
 ULYPTESH_IS_OF(UlypteshFramesResult, 24);
 ULYPTESH_IS_OF(UlypteshAnalyseResult, 112);
 #undef ULYPTESH_IS_OF
-#endif
 
 #ifdef __cplusplus
 }

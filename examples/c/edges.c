@@ -1,0 +1,302 @@
+/* Tests of the calls at their edges, and of ulyptesh_easy, which host/c-example compiles with `scarce` for its calloc.
+   edges NAME   one test: ends with 0 where it passes, and with 1 where it fails
+   edges        all of them */
+#include "ulyptesh_easy.h"
+
+#include <math.h>
+#include <stdio.h>
+#include <stdlib.h>
+#include <string.h>
+
+#define RATE 8000
+/* Samples of a short track and of a long one. */
+#define SHORT ((size_t)RATE * 12)
+#define LONG ((size_t)RATE * 30)
+/* Enough rows of every kind for the short one. */
+#define ROOM 64
+
+static float tone[LONG];
+static const UlypteshSheetHead NO_HEAD = {0, 0, 0, 0};
+
+/* How many allocations succeed before one fails; below 0 all do. */
+static int allocations = -1;
+
+void *scarce(size_t count, size_t size);
+
+void *scarce(size_t count, size_t size)
+{
+    if (allocations == 0)
+        return NULL;
+    if (allocations > 0)
+        allocations--;
+    return calloc(count, size);
+}
+
+/* Whether a fact holds; names it where it does not. */
+static int holds(int fact, const char *words)
+{
+    if (!fact)
+        fprintf(stderr, "edges: not so: %s\n", words);
+    return fact;
+}
+
+#define HOLDS(fact) holds((fact) ? 1 : 0, #fact)
+
+static UlypteshSettings usual(void)
+{
+    return ulyptesh_easy_settings(RATE);
+}
+
+static UlypteshSheetHead head_for(UlypteshSettings settings)
+{
+    UlypteshSheetHead head = NO_HEAD;
+    head.rate = settings.rate;
+    head.minimum_midi_note = settings.minimum_midi_note;
+    head.maximum_midi_note = settings.maximum_midi_note;
+    head.frame_size = settings.frame_size;
+    return head;
+}
+
+/* An analysis and the frames of a track whose sheet has no slice but the window, and for which nothing is lent. */
+static UlypteshAnalyseResult analysed(UlypteshSettings settings, UlypteshSheetHead head, size_t samples, size_t window)
+{
+    const float *track = samples > 0 ? tone : NULL, *values = window > 0 ? tone : NULL;
+    UlypteshAnalyseResult told;
+    ulyptesh_analyse(&told, settings, head, track, samples, values, window, NULL, 0, NULL, 0, NULL, 0, NULL, 0, NULL, 0,
+                     NULL, 0, NULL, 0, NULL, 0, NULL, 0, NULL, 0, NULL, 0, NULL, 0, NULL, 0, NULL, 0, NULL, 0, NULL, 0);
+    return told;
+}
+
+static UlypteshFramesResult heard(UlypteshSettings settings, UlypteshSheetHead head, size_t samples, size_t window)
+{
+    const float *track = samples > 0 ? tone : NULL, *values = window > 0 ? tone : NULL;
+    UlypteshFramesResult told;
+    ulyptesh_frames(&told, settings, head, track, samples, values, window, NULL, 0, NULL, 0, NULL, 0, NULL, 0, NULL, 0,
+                    NULL, 0, NULL, 0, NULL, 0);
+    return told;
+}
+
+/* The number of the header is the library's. */
+static int abi(void)
+{
+    return HOLDS(ulyptesh_abi() == ULYPTESH_ABI);
+}
+
+/* Every slice NULL with count 0, in every call that takes one. */
+static int no_slices(void)
+{
+    UlypteshAnalyseResult told = analysed(usual(), head_for(usual()), 0, 0);
+    UlypteshFramesResult frames = heard(usual(), head_for(usual()), 0, 0);
+    UlypteshKeyResult found;
+    ulyptesh_key(&found, NULL, 0);
+    UlypteshWritten card = ulyptesh_write_card(ULYPTESH_NO_KEY, ULYPTESH_NO_KEY, ULYPTESH_NO_KEY, 0.0f, 0.0f,
+                                               NULL, 0, NULL, 0, NULL, 0, NULL, 0, NULL, 0);
+    return HOLDS(told.refusal == ULYPTESH_DONE && told.key == ULYPTESH_NO_KEY && told.segments == 0)
+        && HOLDS(frames.refusal == ULYPTESH_DONE && frames.count == 0)
+        && HOLDS(found.refusal == ULYPTESH_WRONG_LENGTH && found.key == ULYPTESH_NO_KEY)
+        && HOLDS(ulyptesh_scores(NULL, 0, NULL, 0).refusal == ULYPTESH_WRONG_LENGTH)
+        && HOLDS(ulyptesh_write_key_name(0, NULL, 0).refusal == ULYPTESH_TOO_FEW_BYTES)
+        && HOLDS(card.refusal == ULYPTESH_TOO_FEW_BYTES && card.length == 0);
+}
+
+/* A note above the rate has no rows in a sheet, so all slices of its sheet but the window are of no entries. */
+static UlypteshSettings rowless(void)
+{
+    UlypteshSettings settings = usual();
+    settings.minimum_midi_note = settings.maximum_midi_note = 127;
+    for (size_t at = 0; at < settings.frame_size; at++)
+        tone[at] = 0.5f;
+    return settings;
+}
+
+/* Such a sheet, nothing lent to be written, and the card of no segments. */
+static int some_slices(void)
+{
+    UlypteshSettings settings = rowless();
+    UlypteshSheetHead head = head_for(settings);
+    uint8_t bytes[ULYPTESH_CARD_BYTES(0)];
+    UlypteshWritten card = ulyptesh_write_card(ULYPTESH_NO_KEY, ULYPTESH_NO_KEY, ULYPTESH_NO_KEY, 0.0f, 0.0f,
+                                               NULL, 0, NULL, 0, NULL, 0, NULL, 0, bytes, sizeof bytes);
+    return HOLDS(analysed(settings, head, SHORT, 0).refusal == ULYPTESH_SHEET_NOT_WELL_FORMED)
+        && HOLDS(heard(settings, head, SHORT, 0).refusal == ULYPTESH_SHEET_NOT_WELL_FORMED)
+        && HOLDS(analysed(settings, head, SHORT, settings.frame_size).refusal == ULYPTESH_TOO_FEW_ROWS)
+        && HOLDS(heard(settings, head, SHORT, settings.frame_size).refusal == ULYPTESH_TOO_FEW_ROWS)
+        && HOLDS(card.refusal == ULYPTESH_DONE && card.length == sizeof bytes);
+}
+
+/* Such a sheet, and room for a track: its loud frames are found, and it tells no key. */
+static int no_rows(void)
+{
+    static double centres[ROOM], middles[ROOM], starts[ROOM], ends[ROOM];
+    static float values[ROOM][ULYPTESH_PITCH_CLASSES], energies[ROOM], work[ROOM], certainties[ROOM], confidences[ROOM];
+    static uint8_t numbers[ROOM], keys[ROOM];
+    UlypteshSettings settings = rowless();
+    UlypteshSheetHead head = head_for(settings);
+    UlypteshFramesResult frames;
+    UlypteshAnalyseResult told;
+    ulyptesh_frames(&frames, settings, head, tone, SHORT, tone, settings.frame_size, NULL, 0, NULL, 0, NULL, 0, NULL, 0,
+                    NULL, 0, centres, ROOM, values, ROOM, energies, ROOM);
+    ulyptesh_analyse(&told, settings, head, tone, SHORT, tone, settings.frame_size, NULL, 0, NULL, 0, NULL, 0, NULL, 0,
+                     NULL, 0, centres, ROOM, values, ROOM, energies, ROOM, work, ROOM, middles, ROOM, numbers, ROOM,
+                     certainties, ROOM, starts, ROOM, ends, ROOM, keys, ROOM, confidences, ROOM);
+    return HOLDS(frames.refusal == ULYPTESH_DONE && frames.count > 0)
+        && HOLDS(told.refusal == ULYPTESH_DONE && told.frames == frames.count && told.key == ULYPTESH_NO_KEY);
+}
+
+/* A sheet for 44,100 Hz is refused at 48,000. */
+static int other_sheet(void)
+{
+    UlypteshSheetHead head = head_for(ulyptesh_easy_settings(44100));
+    UlypteshSettings settings = ulyptesh_easy_settings(48000);
+    return HOLDS(analysed(settings, head, SHORT, 0).refusal == ULYPTESH_SHEET_OF_ANOTHER_CALL)
+        && HOLDS(heard(settings, head, SHORT, 0).refusal == ULYPTESH_SHEET_OF_ANOTHER_CALL);
+}
+
+/* The key that is reported may be second: A minor, close behind C major and with a louder tonic. */
+static int relative_key(void)
+{
+    const float chroma[ULYPTESH_PITCH_CLASSES] = {0.75f, 0, 0, 0, 0.5f, 0.5f, 0, 0.75f, 0, 1, 0, 0.25f};
+    float scores[ULYPTESH_KEYS];
+    UlypteshKeyResult found;
+    ulyptesh_key(&found, chroma, ULYPTESH_PITCH_CLASSES);
+    ulyptesh_scores(chroma, ULYPTESH_PITCH_CLASSES, scores, ULYPTESH_KEYS);
+    return HOLDS(found.key == 21) && HOLDS(found.best == scores[0]) && HOLDS(found.second == scores[21]);
+}
+
+/* Without a score that is a number. */
+static int no_score(void)
+{
+    const float chroma[ULYPTESH_PITCH_CLASSES] = {INFINITY};
+    UlypteshKeyResult found;
+    ulyptesh_key(&found, chroma, ULYPTESH_PITCH_CLASSES);
+    return HOLDS(found.refusal == ULYPTESH_DONE && found.key == 0) && HOLDS(isnan(found.confidence))
+        && HOLDS(found.best == -INFINITY && found.second == -INFINITY);
+}
+
+/* Whether settings are refused so, with nothing made. */
+static int refused(UlypteshSettings settings, uint32_t expected)
+{
+    uint32_t status;
+    return HOLDS(ulyptesh_easy_new_for(settings, &status) == NULL) && HOLDS(status == expected);
+}
+
+/* Settings by which no track can be analysed. */
+static int settings_refused(void)
+{
+    UlypteshSettings fast = usual(), wide = fast, vague = fast, hasty = fast, still = fast, turned = fast;
+    fast.rate = 192001;
+    wide.frame_size = SIZE_MAX;
+    vague.minimum_segment_seconds = NAN;
+    hasty.local_hop_seconds = 0.4f;
+    still.hop_size = 0;
+    turned.minimum_midi_note = turned.maximum_midi_note + 1;
+    return refused(fast, ULYPTESH_RATE_TOO_HIGH) && refused(wide, ULYPTESH_SIZE_TOO_LARGE)
+        && refused(vague, ULYPTESH_SETTING_NOT_FINITE) && refused(hasty, ULYPTESH_LOCAL_HOP_TOO_SHORT)
+        && refused(still, ULYPTESH_EASY_NOTHING_ANALYSED) && refused(turned, ULYPTESH_EASY_NOTHING_ANALYSED)
+        && refused(ulyptesh_easy_settings(0), ULYPTESH_EASY_NOTHING_ANALYSED);
+}
+
+/* A major third and a fifth over C. */
+static void fill_tone(void)
+{
+    for (size_t at = 0; at < LONG; at++) {
+        double seconds = (double)at / RATE;
+        tone[at] = (float)(sin(1643.8 * seconds) + sin(2071.1 * seconds) + sin(2463.0 * seconds)) / 4.0f;
+    }
+}
+
+/* A track that is not finite, and what is left of it: loud frames before it, and no segment and no card. */
+static int track_refused(UlypteshEasy *easy)
+{
+    uint8_t card[ULYPTESH_CARD_BYTES(1)];
+    UlypteshAnalyseResult told;
+    float kept = tone[SHORT / 2];
+    tone[SHORT / 2] = 1e30f;
+    uint32_t status = ulyptesh_easy_analyse(easy, tone, SHORT, &told);
+    tone[SHORT / 2] = kept;
+    return HOLDS(status == ULYPTESH_FRAME_NOT_FINITE) && HOLDS(told.refusal == status && told.position == told.frames)
+        && HOLDS(ulyptesh_easy_frame(easy, 0).energy > 0.0f)
+        && HOLDS(ulyptesh_easy_segment(easy, 0).key == ULYPTESH_NO_KEY)
+        && HOLDS(ulyptesh_easy_write_card(easy, card, sizeof card).refusal == ULYPTESH_UNWRITABLE);
+}
+
+/* Whether a track is told as one segment in C major, with its card. */
+static int told_as_c_major(UlypteshEasy *easy, size_t samples)
+{
+    uint8_t card[ULYPTESH_CARD_BYTES(1)];
+    UlypteshAnalyseResult told;
+    return HOLDS(ulyptesh_easy_analyse(easy, tone, samples, &told) == ULYPTESH_DONE)
+        && HOLDS(told.key == 0 && told.segments == 1)
+        && HOLDS(ulyptesh_easy_segment(easy, 0).end == (double)samples / RATE)
+        && HOLDS(ulyptesh_easy_segment(easy, 1).key == ULYPTESH_NO_KEY)
+        && HOLDS(ulyptesh_easy_write_card(easy, card, sizeof card).length == sizeof card);
+}
+
+/* One memory for tracks of several lengths, a refused one among them. */
+static int tracks_in_turn(void)
+{
+    uint32_t status;
+    UlypteshFramesResult frames;
+    UlypteshEasy *easy = ulyptesh_easy_new(RATE, &status);
+    fill_tone();
+    int done = HOLDS(easy != NULL && status == ULYPTESH_DONE)
+        && HOLDS(ulyptesh_easy_frames(easy, tone, RATE, &frames) == ULYPTESH_DONE && frames.count > 0)
+        && told_as_c_major(easy, SHORT) && told_as_c_major(easy, LONG) && track_refused(easy)
+        && told_as_c_major(easy, SHORT);
+    ulyptesh_easy_free(easy);
+    return done;
+}
+
+/* The k-th allocation fails: it is told, and once there is memory again the track is analysed. */
+static int without_allocation(int k)
+{
+    uint32_t status;
+    UlypteshAnalyseResult told;
+    allocations = k;
+    UlypteshEasy *easy = ulyptesh_easy_new(RATE, &status);
+    if (easy != NULL)
+        status = ulyptesh_easy_analyse(easy, tone, SHORT, &told);
+    allocations = -1;
+    int done = HOLDS(status == ULYPTESH_EASY_NO_MEMORY) && (easy == NULL || told_as_c_major(easy, SHORT));
+    ulyptesh_easy_free(easy);
+    return done;
+}
+
+/* 1 for itself, 6 for its sheet, 11 for its rows. */
+static int no_memory(void)
+{
+    int done = 1;
+    fill_tone();
+    for (int k = 0; k < 18; k++)
+        done = done && without_allocation(k);
+    return done;
+}
+
+static const struct {
+    const char *name;
+    int (*passes)(void);
+} TESTS[] = {
+    {"abi", abi},
+    {"no-slices", no_slices},
+    {"some-slices", some_slices},
+    {"no-rows", no_rows},
+    {"other-sheet", other_sheet},
+    {"relative-key", relative_key},
+    {"no-score", no_score},
+    {"settings-refused", settings_refused},
+    {"tracks-in-turn", tracks_in_turn},
+    {"no-memory", no_memory},
+};
+
+int main(int count, char **words)
+{
+    int met = 0, done = 1;
+    for (size_t at = 0; at < sizeof TESTS / sizeof *TESTS; at++)
+        if (count < 2 || strcmp(words[1], TESTS[at].name) == 0) {
+            met = 1;
+            done = TESTS[at].passes() && done;
+        }
+    if (!met)
+        fprintf(stderr, "edges: no test has this name: %s\n", words[1]);
+    return met && done ? EXIT_SUCCESS : EXIT_FAILURE;
+}
