@@ -1,0 +1,148 @@
+//! An analyzer that is used again, beside new ones; its frames alone, beside those of an analysis; and the settings
+//! that it takes, beside the request's words.
+use crate::analysis_calls::refusal_of;
+use crate::frame_calls::settings;
+use crate::groups::{Groups, compared_as_shown};
+use bench::inputs::dice::Dice;
+use bench::inputs::tracks::{KINDS, Maker};
+use ulyptesh::{Analysis, Analyzer, LoudFrame, Refusal, Settings};
+
+/// Streams of the seed from here on.
+const STREAM: u64 = 95_000;
+
+/// So many turns of an analyzer.
+const TURNS: usize = 40;
+
+const RATES: [u32; 3] = [8_000, 11_025, 12_000];
+
+/// So many settings are checked; of each, one number in so many is at a limit.
+const CHECKED: usize = 10_000;
+const AT_LIMIT: usize = 8;
+
+/// Rates with the frame sizes about 14,400 times as large, and the limits of either.
+const RATE_LIMITS: [u32; 8] = [0, 1, 2, 3, 4, 192_000, 192_001, u32::MAX];
+#[rustfmt::skip]
+const SIZE_LIMITS: [usize; 17] = [
+    0, 1, 31, 32, 33, 14_400, 14_401, 28_800, 28_801, 43_200, 43_201, 57_600, 57_601, 65_535, 65_536, 65_537, usize::MAX,
+];
+const HOP_LIMITS: [usize; 5] = [0, 1, 1_048_576, 1_048_577, usize::MAX];
+const NOTE_LIMITS: [u8; 5] = [0, 59, 60, 61, 255];
+const FLOAT_LIMITS: [f32; 12] = [
+    0.0,
+    -0.0,
+    1e-45,
+    -1.0,
+    0.5,
+    0.5f32.next_up(),
+    0.5f32.next_down(),
+    f32::MAX,
+    f32::MIN,
+    f32::NAN,
+    f32::INFINITY,
+    f32::NEG_INFINITY,
+];
+
+/// The loud frames of a track, and why it was refused behind them or before.
+type Heard = (Vec<LoudFrame>, Option<Refusal>);
+
+compared_as_shown!(Result<Analysis, Refusal>, LoudFrame, Refusal);
+
+/// A track of a second or so; the settings change from turn to turn, and one in five is refused.
+fn turn(seed: u64, nth: usize) -> (Settings, Vec<f32>) {
+    let mut dice = Dice::new(seed, STREAM + nth as u64);
+    let mut settings = settings(dice.one_of(&RATES), (dice.one_of(&[48, 60]), 95), 1_024, 512);
+    let length = 500 + dice.below(2 * settings.rate as usize);
+    match dice.below(10) {
+        0 => settings.rate = 200_000,
+        1 => settings.local_hop_seconds = 0.25,
+        _ => {}
+    }
+    let kind = &KINDS[dice.below(KINDS.len())];
+    (settings, (kind.make)(&mut Maker { dice, rate: settings.rate }, length))
+}
+
+fn analysed(analyzer: &mut Analyzer, settings: Settings, samples: &[f32]) -> Result<Analysis, Refusal> {
+    analyzer.set(settings)?;
+    analyzer.analyse(samples)
+}
+
+fn analysed_anew(seed: u64, nth: usize) -> Result<Analysis, Refusal> {
+    let (settings, samples) = turn(seed, nth);
+    Analyzer::new(settings)?.analyse(&samples)
+}
+
+/// The frames alone; those before one that is not finite are left.
+fn heard(analyzer: &mut Analyzer, settings: Settings, samples: &[f32]) -> Heard {
+    if let Err(why) = analyzer.set(settings) {
+        return (vec![], Some(why));
+    }
+    let told = analyzer.frames(samples).map(Iterator::collect);
+    match told {
+        Ok(frames) => (frames, None),
+        Err(why) => (analyzer.loud_frames().collect(), Some(why)),
+    }
+}
+
+/// What an analysis leaves.
+fn left_anew(seed: u64, nth: usize) -> Heard {
+    let (settings, samples) = turn(seed, nth);
+    match Analyzer::new(settings) {
+        Err(why) => (vec![], Some(why)),
+        Ok(mut analyzer) => {
+            let why = analyzer.analyse(&samples).err();
+            (analyzer.loud_frames().collect(), why)
+        }
+    }
+}
+
+/// All turns by one analyzer, which has seen longer and shorter tracks, other rates and refusals before.
+fn compare_analyzers(groups: &mut Groups) {
+    let (seed, mut analyzer) = (groups.seed, Analyzer::for_rate(RATES[0]).expect("a rate that is taken"));
+    let mut in_turn = |nth| {
+        let (settings, samples) = turn(seed, nth);
+        let analysis = analysed(&mut analyzer, settings, &samples);
+        (analysis, heard(&mut analyzer, settings, &samples))
+    };
+    let (again, frames): (Vec<_>, Vec<_>) = (0..TURNS).map(&mut in_turn).unzip();
+    let again = |nth: usize| again[nth].clone();
+    groups.group("an analyzer used again", 0..TURNS, again, |nth| analysed_anew(seed, nth));
+    let frames = |nth: usize| frames[nth].clone();
+    groups.group("an analyzer's frames alone", 0..TURNS, frames, |nth| left_anew(seed, nth));
+}
+
+fn at_limit_or<A: Copy>(dice: &mut Dice, limits: &[A], usual: A) -> A {
+    if dice.one_in(AT_LIMIT) { dice.one_of(limits) } else { usual }
+}
+
+/// The Rust's own settings but for some numbers at limits.
+fn about_limits(dice: &mut Dice) -> Settings {
+    let usual = Settings::for_rate(44_100);
+    Settings::for_rate(at_limit_or(dice, &RATE_LIMITS, usual.rate)).with(|settings| {
+        settings.frame_size = at_limit_or(dice, &SIZE_LIMITS, usual.frame_size);
+        settings.hop_size = at_limit_or(dice, &HOP_LIMITS, usual.hop_size);
+        settings.minimum_midi_note = at_limit_or(dice, &NOTE_LIMITS, usual.minimum_midi_note);
+        settings.maximum_midi_note = at_limit_or(dice, &NOTE_LIMITS, usual.maximum_midi_note);
+        for number in [
+            &mut settings.local_window_seconds,
+            &mut settings.local_hop_seconds,
+            &mut settings.alternate_coverage_threshold,
+            &mut settings.segment_confidence_threshold,
+            &mut settings.minimum_segment_seconds,
+        ] {
+            *number = at_limit_or(dice, &FLOAT_LIMITS, *number);
+        }
+    })
+}
+
+/// The front of the request's table, for a track of one frame: no track is analysed where that is not.
+fn compare_checks(groups: &mut Groups) {
+    let mut dice = Dice::new(groups.seed, STREAM + TURNS as u64);
+    let checked = (0..CHECKED).map(|_| about_limits(&mut dice));
+    let ours = |settings: Settings| settings.check().err().map(|why| why.number());
+    groups.group("settings checked", checked, ours, |settings| refusal_of(&settings, settings.frame_size));
+}
+
+pub fn compare(groups: &mut Groups) {
+    compare_analyzers(groups);
+    compare_checks(groups);
+}

@@ -1,0 +1,137 @@
+//! From frames to segments, beside the oracle's `estimate_segments`: estimates, segments and the rows that stay.
+use crate::estimate_lists::{put_estimates, untouched_estimates};
+use crate::estimates::before_joining;
+use crate::groups::{Compared, Groups, compared_exactly};
+use crate::segment_lists::{put_joined, untouched_segments};
+use crate::segment_tracks::{Asked, Tracks};
+use crate::windows::{duration, is_brief, rows_asked};
+use bench::oracle::key_lime::KeySegment;
+use bench::oracle::key_lime::expose::{Estimate, estimate_segments, estimates, key_from_index};
+use bench::oracle::{config, frames};
+use bench::probe::segments::{Cutting, ProbedSegments, START_DID_NOT_GROW, TOO_LITTLE_ROOM, Track, segments};
+use ulyptesh::calls::{EstimateRows, SegmentRows};
+
+/// Streams of the seed from here on are the segments'.
+const STREAM: u64 = 60_100;
+
+/// Each group has so many streams.
+const STREAMS: usize = 100;
+
+/// What the call answers and the rows that it leaves.
+type Left = (ProbedSegments, (EstimateRows, SegmentRows));
+
+compared_exactly!(ProbedSegments);
+
+impl Compared for Asked {
+    fn same(&self, other: &Self) -> bool {
+        self.shown() == other.shown()
+    }
+
+    fn shown(&self) -> String {
+        let Track { settings, samples, key, confidence, centres, .. } = &self.track;
+        let room = self.room;
+        format!(
+            "{settings:?}, {samples} samples, key {key}, {confidence:?}, room {room:?}, {}",
+            centres.shown()
+        )
+    }
+}
+
+fn untouched(room: [usize; 7]) -> (EstimateRows, SegmentRows) {
+    let [middles, numbers, certainties, starts, ends, keys, confidences] = room;
+    let segments = untouched_segments([starts, ends, keys, confidences]);
+    (untouched_estimates([middles, numbers, certainties]), segments)
+}
+
+fn ours(asked: Asked) -> Left {
+    let (mut found, mut left) = untouched(asked.room);
+    let answer = segments(&asked.track, &mut found, &mut left);
+    (answer, (found, left))
+}
+
+/// The oracle's estimates; where the hop is not above 0 those of the first window, since its loop ends at a NaN.
+pub fn their_estimates(track: &Track) -> Vec<Estimate> {
+    if is_brief(track) {
+        return vec![];
+    }
+    let mut config = config(&track.settings);
+    if !grows(track) {
+        config.local_hop_seconds = f32::NAN;
+    }
+    estimates(&frames(track), duration(track), config)
+}
+
+/// Whether the start of the window grows: no hop of these tracks is too small for that.
+fn grows(track: &Track) -> bool {
+    track.settings.local_hop_seconds > 0.0
+}
+
+fn their_segments(track: &Track) -> Vec<KeySegment> {
+    let (key, config) = (key_from_index(track.key.into()), config(&track.settings));
+    estimate_segments(&frames(track), duration(track), key, track.confidence, config)
+}
+
+/// How many segments there are before any is joined.
+pub fn their_groups(track: &Track, found: &[Estimate]) -> usize {
+    let threshold = track.settings.segment_confidence_threshold;
+    let Track { key, confidence, .. } = *track;
+    before_joining(Cutting { threshold, minimum: 0.0, duration: duration(track), key, confidence }, found)
+}
+
+fn answer(outcome: u32, estimates: usize, segments: usize) -> ProbedSegments {
+    ProbedSegments { outcome, estimates, segments }
+}
+
+fn theirs(asked: Asked) -> Left {
+    let Asked { track, room } = asked;
+    let mut rows = untouched(room);
+    if room.into_iter().any(|lent| lent < rows_asked(&track)) {
+        return (answer(TOO_LITTLE_ROOM, 0, 0), rows);
+    }
+    let found = their_estimates(&track);
+    put_estimates(&found, &mut rows.0);
+    if !is_brief(&track) && !grows(&track) {
+        return (answer(START_DID_NOT_GROW, found.len(), 0), rows);
+    }
+    let left = their_segments(&track);
+    put_joined(&left, their_groups(&track, &found), &mut rows.1);
+    (answer(0, found.len(), left.len()), rows)
+}
+
+type Maker = fn(&mut Tracks) -> Asked;
+
+/// Name, how many tracks, and how one is made.
+const KINDS: [(&str, usize, Maker); 6] = [
+    ("centres as the library makes them", 5_000, |tracks| {
+        let track = tracks.regular();
+        tracks.with_room(track)
+    }),
+    ("centres anywhere", 4_000, |tracks| {
+        let track = tracks.irregular();
+        tracks.with_room(track)
+    }),
+    ("as long as window and hop", 2_000, |tracks| {
+        let track = tracks.at_window_and_hop();
+        tracks.with_room(track)
+    }),
+    ("a row too few", 1_000, |tracks| {
+        let track = tracks.regular();
+        tracks.without_room(track)
+    }),
+    ("a start that does not grow", 200, |tracks| {
+        let track = tracks.stuck();
+        tracks.with_room(track)
+    }),
+    ("centres in order", 4_000, |tracks| {
+        let track = tracks.in_order();
+        tracks.with_room(track)
+    }),
+];
+
+pub fn compare(groups: &mut Groups) {
+    for (stream, (name, count, make)) in (STREAM..).step_by(STREAMS).zip(KINDS) {
+        let mut tracks = Tracks::new(groups.seed, stream);
+        let inputs = (0..count).map(move |_| make(&mut tracks));
+        groups.group(&format!("segments of frames, {name}"), inputs, ours, theirs);
+    }
+}

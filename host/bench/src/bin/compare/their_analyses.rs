@@ -1,0 +1,82 @@
+//! The oracle's side of a whole analysis: what is answered, and what every lent list holds afterwards.
+use crate::analysis_calls::Asked;
+use crate::analysis_left::{Left, keyless, refused, untouched};
+use crate::estimate_lists::put_estimates;
+use crate::frames::{Heard, heard, put_frames};
+use crate::segment_lists::put_joined;
+use crate::segments::{their_estimates, their_groups};
+use bench::oracle::config;
+use bench::oracle::key_lime::expose::{analysis_of_frames, key_number};
+use bench::oracle::key_lime::{KeyAnalysis, MusicalKey};
+use bench::probe::segments::Track;
+use ulyptesh::calls::{AnalyseResult, Buffers, NO_KEY};
+
+fn number(key: Option<MusicalKey>) -> u32 {
+    key.map_or(NO_KEY, |key| key_number(key).into())
+}
+
+fn with_key(told: &KeyAnalysis, frames: usize, estimates: usize) -> AnalyseResult {
+    AnalyseResult {
+        key: number(told.key),
+        dsp_key: number(told.dsp_key),
+        alternate: number(told.alternate_key),
+        coverage: told.alternate_coverage,
+        confidence: told.confidence,
+        estimates: estimates as u64,
+        segments: told.segments.len() as u64,
+        chroma: told.chroma,
+        ..keyless(0, 0, frames)
+    }
+}
+
+/// What the oracle's `analyze` makes of the frames.
+fn told(asked: &Asked, heard: &Heard) -> KeyAnalysis {
+    let (settings, samples) = (&asked.call.settings, &asked.call.samples);
+    let (frames, energies) = (heard.frames.clone(), heard.energies.clone());
+    analysis_of_frames(samples, settings.rate, config(settings), frames, energies)
+}
+
+/// The oracle's analysis of a call that the table lets through; none where it stops at a frame or hears none.
+pub fn their_analysis(asked: &Asked) -> Option<KeyAnalysis> {
+    let heard = heard(&asked.call);
+    (heard.broken.is_none() && !heard.frames.is_empty()).then(|| told(asked, &heard))
+}
+
+/// The track as its segments see it.
+fn track_of(asked: &Asked, heard: &Heard) -> Track {
+    let centres = heard.frames.iter().map(|frame| frame.center_seconds).collect();
+    Track { centres, values: heard.frames.iter().map(|frame| frame.values).collect(), ..asked.track() }
+}
+
+/// What the oracle answers and leaves behind the frames. Number 10 has no place here: a start is below 14,400 s,
+/// and grows when half a second or more is added.
+fn their_answer(asked: &Asked, lent: &mut Buffers) -> AnalyseResult {
+    let heard = heard(&asked.call);
+    let frames = heard.frames.len();
+    put_frames(&heard, &mut lent.frames);
+    if let Some(position) = heard.broken {
+        return keyless(9, position, frames);
+    }
+    if frames == 0 {
+        return keyless(0, 0, 0);
+    }
+    lent.work[..frames].fill(0.0);
+    let told = told(asked, &heard);
+    if told.key.is_none() {
+        return keyless(0, 0, frames);
+    }
+    let track = track_of(asked, &heard);
+    let found = their_estimates(&track);
+    put_estimates(&found, &mut lent.estimates);
+    put_joined(&told.segments, their_groups(&track, &found), &mut lent.segments);
+    with_key(&told, frames, found.len())
+}
+
+pub fn theirs(asked: &Asked) -> Left {
+    if let Some(refusal) = asked.refusal() {
+        return refused(asked, refusal);
+    }
+    let mut lent = untouched(asked);
+    let answer = their_answer(asked, &mut lent);
+    Left { answer, lent, stayed: true }
+}

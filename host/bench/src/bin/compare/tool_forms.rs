@@ -1,0 +1,136 @@
+//! What the tool prints, beside what its pages say: help, notations, keys alone, keys at several times, names.
+use crate::groups::{Groups, compared_exactly};
+use crate::key_names::{CAMELOT, OPEN_KEY};
+use crate::tool_runs::{Folder, text};
+use ulyptesh::calls::ABI;
+use ulyptesh::{Key, Notation};
+
+/// Words, the exit status, and what is printed.
+type Case = (&'static str, i32, &'static str);
+
+/// The track is a tone on A; silence has no key.
+const CASES: [Case; 15] = [
+    ("analyse tone --rate 8000 --key-only", 0, "A minor\n"),
+    ("analyse tone --rate 8000 --key-only --notation sharps", 0, "A minor\n"),
+    ("analyse tone --rate 8000 --key-only --notation camelot", 0, "8A\n"),
+    ("analyse tone --rate=8000 --key-only --notation=open-key", 0, "1m\n"),
+    ("analyse silent --rate 8000 --key-only", 0, "none\n"),
+    ("analyse silent tone --rate 8000 --key-only", 0, "none\tsilent\nA minor\ttone\n"),
+    ("analyse --rate 8000 --key-only -- -tone", 0, "A minor\n"),
+    ("analyse silent --rate 8000", 0, "silent: no key in 2.00 s, 0 loud frames\n"),
+    ("analyse silent --rate 8000 --notation flats", 0, "silent: no key in 2.00 s, 0 loud frames\n"),
+    ("key-at tone 1 --rate 8000", 0, "A minor (8A)\n"),
+    ("key-at tone 0 1.5 2 --rate 8000 --notation camelot", 0, "0 s: 8A\n1.5 s: 8A\n2 s: 8A\n"),
+    ("key-at tone 1 3 --rate 8000", 1, "1 s: A minor (8A)\n"),
+    ("key-name 13", 0, "C# minor\n"),
+    ("key-name 13 --notation flats", 0, "Db minor\n"),
+    ("key 1 0 0 0 1 0 0 -1 0 0 0 0 --notation open-key --help", 0, KEY_HELP),
+];
+
+const KEY_HELP: &str = "\
+ulyptesh key NUMBER x12 [--notation WORD]
+  The key of a chroma: a number for each pitch class, from C upward. The best score is the highest of
+  the 24, which is the relative key's where that one was not taken.
+";
+
+/// How a run ended and what it printed.
+#[derive(Debug, PartialEq)]
+struct Printed {
+    status: Option<i32>,
+    text: String,
+}
+
+compared_exactly!(Printed);
+
+/// Two seconds on A.
+fn tone() -> Vec<f32> {
+    (0..16_000).map(|place| (place as f32 * 0.345_575_2).sin()).collect()
+}
+
+fn filled() -> Folder {
+    let folder = Folder::new("tool-forms");
+    folder.put_samples("tone", &tone());
+    folder.put_samples("-tone", &tone());
+    folder.put_samples("silent", &[0.0; 16_000]);
+    folder.put_samples("bell\u{7}\u{1b}[31m", &[0.0; 16_000]);
+    folder
+}
+
+fn printed(folder: &Folder, words: &[&str]) -> Printed {
+    let ended = folder.run(words);
+    Printed { status: ended.status.code(), text: text(&ended.stdout) }
+}
+
+/// A key as the pages write it.
+fn written((number, notation): (usize, usize)) -> String {
+    let key = Key::ALL[number];
+    match Notation::ALL[notation] {
+        Notation::Camelot => CAMELOT[number].into(),
+        Notation::OpenKey => OPEN_KEY[number].into(),
+        Notation::Flats => {
+            let name = key.name();
+            let flat = [("C#", "Db"), ("D#", "Eb"), ("F#", "Gb"), ("G#", "Ab"), ("A#", "Bb")];
+            flat.into_iter().fold(name, |name, (sharp, flat)| name.replace(sharp, flat))
+        }
+        _ => key.name(),
+    }
+}
+
+fn by_tool(folder: &Folder, (number, notation): (usize, usize)) -> String {
+    let word = Notation::ALL[notation].word();
+    let ended = folder.run(&["key-name", &number.to_string(), "--notation", word]);
+    text(&ended.stdout).trim_end().into()
+}
+
+/// A command's own help, twice over, and the version.
+fn help(folder: &Folder) -> [bool; 4] {
+    let one = |words: &[&str]| printed(folder, words).text;
+    let whole = one(&["--help"]);
+    let commands = ["analyse", "key-at", "key", "key-name", "demo"];
+    let version = format!("ulyptesh {}, interface {ABI}\n", env!("CARGO_PKG_VERSION"));
+    [
+        whole == one(&["help"]) && whole == one(&["-h"]),
+        commands.iter().all(|name| one(&["help", name]) == one(&[name, "--help"])),
+        commands.iter().all(|name| whole.contains(one(&["help", name]).lines().next().unwrap_or("nothing"))),
+        one(&["--version"]) == version && one(&["-V"]) == version,
+    ]
+}
+
+/// Samples, or a file of another kind, by standard input.
+fn by_input(folder: &Folder) -> [bool; 2] {
+    let words = ["analyse", "-", "--rate", "8000", "--key-only"];
+    let (tone, other) =
+        (folder.run_on(&tone(), &words), folder.run_on(&[f32::from_bits(0x4646_4952); 9], &words));
+    [text(&tone.stdout) == "A minor\n", other.stdout.is_empty() && text(&other.stderr).contains("a WAV file")]
+}
+
+/// Control characters in a file's name reach no terminal.
+fn names_are_harmless(folder: &Folder) -> [bool; 2] {
+    let ended = folder.run(&["analyse", "bell\u{7}\u{1b}[31m", "lost\u{1b}", "--rate", "8000"]);
+    let harmless = |bytes: &[u8]| text(bytes).chars().all(|c| c == '\n' || !c.is_control());
+    [
+        harmless(&ended.stdout) && harmless(&ended.stderr),
+        text(&ended.stdout).starts_with("bell\\u{7}\\u{1b}[31m: "),
+    ]
+}
+
+pub fn compare(groups: &mut Groups) {
+    let folder = filled();
+    groups.group(
+        "what the tool prints",
+        0..CASES.len(),
+        |nth| printed(&folder, &CASES[nth].0.split_whitespace().collect::<Vec<_>>()),
+        |nth| Printed { status: Some(CASES[nth].1), text: CASES[nth].2.into() },
+    );
+    let keys =
+        (0..Key::ALL.len()).flat_map(|key| (0..Notation::ALL.len()).map(move |notation| (key, notation)));
+    groups.group("the tool's notations", keys, |key| by_tool(&folder, key), written);
+    groups.group("the tool's help and version", [0u32].into_iter(), |_| help(&folder), |_| [true; 4]);
+    groups.group("the tool on standard input", [0u32].into_iter(), |_| by_input(&folder), |_| [true; 2]);
+    groups.group(
+        "names in the tool's messages",
+        [0u32].into_iter(),
+        |_| names_are_harmless(&folder),
+        |_| [true; 2],
+    );
+}

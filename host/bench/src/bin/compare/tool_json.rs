@@ -1,0 +1,137 @@
+//! The tool's JSON, beside its page: the fields in their order, and each value of its kind.
+use crate::groups::{Groups, compared_as_shown};
+use crate::json::Json;
+use crate::tool_runs::{Folder, text};
+use std::f64::consts::TAU;
+use std::fs;
+use std::path::Path;
+
+/// A field's name and its kind, as a row of the page's tables has them.
+type Field = (String, String);
+
+/// The fields of the section with this title.
+fn fields(page: &str, title: &str) -> Vec<Field> {
+    let section = page.split("\n## ").find(|section| section.starts_with(title)).unwrap_or_default();
+    let cells = section.lines().map(|line| line.split(" | ").collect::<Vec<_>>());
+    let rows = cells.filter(|cells| cells[0].starts_with("| `"));
+    rows.map(|cells| (cells[0].trim_matches(['|', ' ', '`']).into(), cells[1].into())).collect()
+}
+
+fn page() -> String {
+    let place = Path::new(env!("CARGO_MANIFEST_DIR")).join("../../docs/JSON.md");
+    fs::read_to_string(place).expect("the page on JSON")
+}
+
+/// Whether a value is of a kind.
+fn is_of(value: &Json, kind: &str, page: &str) -> bool {
+    match kind.strip_suffix(" or null") {
+        Some(kind) => *value == Json::Null || is_of(value, kind, page),
+        None => match (kind, value) {
+            ("number", Json::Number(_)) | ("text", Json::Text(_)) => true,
+            ("list of numbers", Json::List(items)) => items.iter().all(|item| is_of(item, "number", page)),
+            ("list of segments", Json::List(items)) => {
+                items.iter().all(|item| follows(item, "A segment", page))
+            }
+            _ => false,
+        },
+    }
+}
+
+/// Whether an object has exactly the fields of a section, in its order and of its kinds.
+fn follows(told: &Json, title: &str, page: &str) -> bool {
+    let (Json::Object(values), wanted) = (told, fields(page, title)) else { return false };
+    let named = values.iter().map(|(name, _)| name).eq(wanted.iter().map(|(name, _)| name));
+    named && values.iter().zip(&wanted).all(|((_, value), (_, kind))| is_of(value, kind, page))
+}
+
+/// A run: its words, how many objects it prints, and fields that are null in each.
+#[derive(Debug, Clone, Copy)]
+struct Run {
+    words: &'static str,
+    objects: usize,
+    nulls: &'static [&'static str],
+}
+
+compared_as_shown!(Run);
+
+const WITHOUT_ALTERNATE: &[&str] = &["alternate", "alternate_number", "alternate_camelot", "coverage"];
+
+#[rustfmt::skip]
+const WITHOUT_KEY: &[&str] = &[
+    "key", "key_number", "camelot", "dsp_key", "dsp_key_number", "alternate", "alternate_number", "alternate_camelot",
+    "coverage",
+];
+
+const RUNS: [Run; 6] = [
+    Run { words: "analyse two --rate 8000 --segment-confidence 0.2 --json", objects: 1, nulls: &[] },
+    Run { words: "analyse one --rate 8000 --json", objects: 1, nulls: WITHOUT_ALTERNATE },
+    Run { words: "analyse silent --rate 8000 --json-lines", objects: 1, nulls: WITHOUT_KEY },
+    Run {
+        words: "analyse two two --rate 8000 --segment-confidence 0.2 --json-lines",
+        objects: 2,
+        nulls: &[],
+    },
+    Run { words: "analyse missing silent silent --rate 8000 --json", objects: 2, nulls: WITHOUT_KEY },
+    Run {
+        words: "analyse one one missing --rate 8000 --json --jobs 2",
+        objects: 2,
+        nulls: WITHOUT_ALTERNATE,
+    },
+];
+
+/// The tones of a key, all at once: the lowest note and its mode's tones with their loudness.
+fn tones(lowest: u32, tones: &[(u32, f64)], place: usize) -> f32 {
+    let tone = |&(semitones, loudness): &(u32, f64)| {
+        let hertz = 440.0 * ((f64::from(lowest + semitones) - 69.0) / 12.0).exp2();
+        loudness * (TAU * hertz * place as f64 / 8_000.0).sin()
+    };
+    0.15 * tones.iter().map(tone).sum::<f64>() as f32
+}
+
+const MAJOR: &[(u32, f64)] = &[(0, 1.0), (2, 0.3), (4, 0.6), (7, 0.35), (5, 0.1)];
+const MINOR: &[(u32, f64)] = &[(0, 1.0), (2, 0.3), (3, 0.6), (7, 0.5), (8, 0.35), (11, 0.2)];
+
+/// A track in two keys, one in one, and silence.
+fn filled() -> Folder {
+    let folder = Folder::new("tool-json");
+    let in_c = |length: usize| (0..length).map(|place| tones(60, MAJOR, place));
+    let two: Vec<f32> =
+        in_c(360_000).chain((360_000..560_000).map(|place| tones(66, MINOR, place))).collect();
+    folder.put_samples("two", &two);
+    folder.put_samples("one", &in_c(240_000).collect::<Vec<f32>>());
+    folder.put_samples("silent", &[0.0; 16_000]);
+    folder
+}
+
+/// The objects that a run prints.
+fn objects(printed: &str, words: &str) -> Vec<Json> {
+    if words.contains("--json-lines") {
+        return printed.lines().filter_map(Json::read).collect();
+    }
+    Json::read(printed).and_then(|array| array.list().map(<[Json]>::to_vec)).unwrap_or_default()
+}
+
+/// How many objects follow the page, and how many have just these nulls.
+fn seen(folder: &Folder, page: &str, run: Run) -> (usize, usize) {
+    let ended = folder.run(&run.words.split_whitespace().collect::<Vec<_>>());
+    let objects = objects(&text(&ended.stdout), run.words);
+    let nulls = |told: &&Json| told.nulls().is_some_and(|names| names == run.nulls);
+    let follow = objects.iter().filter(|told| follows(told, "A track", page)).count();
+    (follow, objects.iter().filter(nulls).count())
+}
+
+/// The page's own example follows it too.
+fn example(page: &str) -> bool {
+    let example = page.split("```json\n").nth(1).and_then(|behind| behind.split("```").next());
+    let told = example.and_then(Json::read);
+    told.is_some_and(|told| {
+        told.list().is_some_and(|tracks| tracks.iter().all(|one| follows(one, "A track", page)))
+    })
+}
+
+pub fn compare(groups: &mut Groups) {
+    let (folder, page) = (filled(), page());
+    let (ours, wanted) = (|run: Run| seen(&folder, &page, run), |run: Run| (run.objects, run.objects));
+    groups.group("the tool's JSON beside its page", RUNS.into_iter(), ours, wanted);
+    groups.group("the example of the page on JSON", [0u32].into_iter(), |_| example(&page), |_| true);
+}

@@ -1,0 +1,103 @@
+//! Runs of the tool's program, in a folder of their own.
+use std::collections::BTreeMap;
+use std::ffi::OsStr;
+use std::fs;
+use std::io::Write;
+use std::os::unix::fs::symlink;
+use std::path::PathBuf;
+use std::process::{Command, Output, Stdio, id};
+
+/// A folder beside the programs that is there as long as this.
+pub struct Folder(PathBuf);
+
+/// The programs' own folder.
+fn programs() -> PathBuf {
+    let this = std::env::current_exe().expect("the comparison's own path");
+    this.parent().expect("a program lies in a folder").to_path_buf()
+}
+
+impl Folder {
+    pub fn new(name: &str) -> Self {
+        let folder = programs().join(format!("{name}-{}", id()));
+        fs::create_dir_all(&folder).expect("a new folder");
+        Self(folder)
+    }
+
+    /// Writes samples as the tool reads them.
+    pub fn put_samples(&self, name: &str, samples: &[f32]) {
+        self.put(name, &bytes(samples));
+    }
+
+    pub fn put(&self, name: &str, content: &[u8]) {
+        fs::write(self.0.join(name), content).expect("a file is written");
+    }
+
+    pub fn read(&self, name: &str) -> Option<Vec<u8>> {
+        fs::read(self.0.join(name)).ok()
+    }
+
+    pub fn put_link(&self, name: &str, target: &str) {
+        symlink(target, self.0.join(name)).expect("a link is made");
+    }
+
+    pub fn is_link(&self, name: &str) -> bool {
+        self.0.join(name).is_symlink()
+    }
+
+    pub fn make_folder(&self, name: &str) {
+        fs::create_dir(self.0.join(name)).expect("a folder is made");
+    }
+
+    /// What lies in the folder and in those below it: names and content.
+    pub fn content(&self) -> BTreeMap<PathBuf, Vec<u8>> {
+        let (mut found, mut folders) = (BTreeMap::new(), vec![self.0.clone()]);
+        while let Some(folder) = folders.pop() {
+            for entry in fs::read_dir(folder).expect("the folder is there") {
+                let path = entry.expect("an entry").path();
+                if path.is_dir() {
+                    folders.push(path.clone());
+                }
+                found.insert(path.clone(), fs::read(path).unwrap_or_default());
+            }
+        }
+        found
+    }
+
+    /// The tool with these words, not yet run.
+    pub fn command(&self, words: &[impl AsRef<OsStr>]) -> Command {
+        let mut command = Command::new(programs().join("ulyptesh"));
+        command.current_dir(&self.0).args(words);
+        command
+    }
+
+    /// The tool with these words, in this folder.
+    pub fn run(&self, words: &[impl AsRef<OsStr>]) -> Output {
+        self.command(words).stdin(Stdio::null()).output().expect("the tool runs")
+    }
+
+    /// The same, with samples on standard input.
+    pub fn run_on(&self, samples: &[f32], words: &[impl AsRef<OsStr>]) -> Output {
+        let mut command = self.command(words);
+        command.stdin(Stdio::piped()).stdout(Stdio::piped()).stderr(Stdio::piped());
+        let mut running = command.spawn().expect("the tool runs");
+        let mut input = running.stdin.take().expect("a pipe");
+        // a tool that ends early closes the pipe, which its answer tells
+        drop(input.write_all(&bytes(samples)));
+        drop(input);
+        running.wait_with_output().expect("the tool ends")
+    }
+}
+
+fn bytes(samples: &[f32]) -> Vec<u8> {
+    samples.iter().flat_map(|x| x.to_le_bytes()).collect()
+}
+
+impl Drop for Folder {
+    fn drop(&mut self) {
+        drop(fs::remove_dir_all(&self.0));
+    }
+}
+
+pub fn text(bytes: &[u8]) -> String {
+    String::from_utf8_lossy(bytes).into_owned()
+}

@@ -1,0 +1,5 @@
+//! Inputs from a seed, the same in every run.
+pub mod chromas;
+pub mod dice;
+pub mod random;
+pub mod tracks;

@@ -1,0 +1,120 @@
+//! The rules of a sheet, and the filters over it.
+use ulyptesh::calls::answer_of;
+use ulyptesh::calls::{Sheet, SheetHead};
+use ulyptesh::{Chroma, Settings};
+
+#[expect(improper_ctypes, reason = "the settings are those of the C header, whatever is added to them")]
+unsafe extern "C" {
+    /// Whether a sheet was made for this call.
+    pub safe fn probe_sheet_matches(settings: Settings, head: SheetHead) -> bool;
+
+    fn probe_well_formed(
+        head: SheetHead,
+        window: *const f32,
+        window_count: usize,
+        coefficients: *const f32,
+        coefficient_count: usize,
+        weights: *const f32,
+        weight_count: usize,
+        lengths: *const u32,
+        length_count: usize,
+        constant_q_coefficients: *const f32,
+        constant_q_coefficient_count: usize,
+        windows: *const f32,
+        windows_count: usize,
+    ) -> bool;
+
+    fn probe_goertzel(
+        answer: *mut Chroma,
+        lowest: u8,
+        samples: *const f32,
+        sample_count: usize,
+        start: usize,
+        window: *const f32,
+        window_count: usize,
+        coefficients: *const f32,
+        coefficient_count: usize,
+        weights: *const f32,
+        weight_count: usize,
+    ) -> *mut Chroma;
+
+    fn probe_constant_q(
+        answer: *mut Chroma,
+        lowest: u8,
+        samples: *const f32,
+        sample_count: usize,
+        centre: usize,
+        lengths: *const u32,
+        length_count: usize,
+        coefficients: *const f32,
+        coefficient_count: usize,
+        windows: *const f32,
+        windows_count: usize,
+    ) -> *mut Chroma;
+}
+
+/// Whether every rule of the sheet holds.
+pub fn well_formed(sheet: &Sheet) -> bool {
+    // SAFETY: each pointer and its count are one slice, which outlives the call.
+    unsafe {
+        probe_well_formed(
+            sheet.head,
+            sheet.window.as_ptr(),
+            sheet.window.len(),
+            sheet.goertzel_coefficients.as_ptr(),
+            sheet.goertzel_coefficients.len(),
+            sheet.goertzel_weights.as_ptr(),
+            sheet.goertzel_weights.len(),
+            sheet.constant_q_lengths.as_ptr(),
+            sheet.constant_q_lengths.len(),
+            sheet.constant_q_coefficients.as_ptr(),
+            sheet.constant_q_coefficients.len(),
+            sheet.constant_q_windows.as_ptr(),
+            sheet.constant_q_windows.len(),
+        )
+    }
+}
+
+/// The Goertzel chroma of the frame that starts at `start`; zeros where it is not on the track.
+pub fn goertzel(sheet: &Sheet, samples: &[f32], start: usize) -> Chroma {
+    // SAFETY: each pointer and its count are one slice, which outlives the call; the call writes its whole answer.
+    unsafe {
+        answer_of(|answer| {
+            probe_goertzel(
+                answer,
+                sheet.head.minimum_midi_note,
+                samples.as_ptr(),
+                samples.len(),
+                start,
+                sheet.window.as_ptr(),
+                sheet.window.len(),
+                sheet.goertzel_coefficients.as_ptr(),
+                sheet.goertzel_coefficients.len(),
+                sheet.goertzel_weights.as_ptr(),
+                sheet.goertzel_weights.len(),
+            )
+        })
+    }
+}
+
+/// The constant-Q chroma around a centre; zeros where it is not on the track.
+pub fn constant_q(sheet: &Sheet, samples: &[f32], centre: usize) -> Chroma {
+    // SAFETY: each pointer and its count are one slice, which outlives the call; the call writes its whole answer.
+    unsafe {
+        answer_of(|answer| {
+            probe_constant_q(
+                answer,
+                sheet.head.minimum_midi_note,
+                samples.as_ptr(),
+                samples.len(),
+                centre,
+                sheet.constant_q_lengths.as_ptr(),
+                sheet.constant_q_lengths.len(),
+                sheet.constant_q_coefficients.as_ptr(),
+                sheet.constant_q_coefficients.len(),
+                sheet.constant_q_windows.as_ptr(),
+                sheet.constant_q_windows.len(),
+            )
+        })
+    }
+}

@@ -1,0 +1,72 @@
+//! Key cards, written into lent bytes.
+use super::written::Written;
+
+/// Bytes of a card with as many segments as it can have, 1,023: 49 bits of header, 39 for each.
+pub const LONGEST_CARD: usize = (49 + 39 * 1_023usize).div_ceil(8);
+
+/// What a card is written from: keys by number, times in seconds, confidences and the coverage from 0 to 1.
+#[derive(Debug, Clone, Copy)]
+pub struct CardFields<'a> {
+    /// The reported key, 24 where there is none.
+    pub key: u32,
+    /// The key by profiles alone, 24 where there is none.
+    pub dsp_key: u32,
+    /// The alternate key, 24 where there is none.
+    pub alternate: u32,
+    /// The alternate's part of the track.
+    pub coverage: f32,
+    /// The confidence in the key.
+    pub confidence: f32,
+    /// Where each segment starts.
+    pub starts: &'a [f64],
+    /// Where each segment ends.
+    pub ends: &'a [f64],
+    /// The key of each segment.
+    pub keys: &'a [u8],
+    /// The confidence in each segment.
+    pub confidences: &'a [f32],
+}
+
+unsafe extern "C" {
+    fn ulyptesh_write_card(
+        key: u32,
+        dsp_key: u32,
+        alternate: u32,
+        coverage: f32,
+        confidence: f32,
+        starts: *const f64,
+        start_count: usize,
+        ends: *const f64,
+        end_count: usize,
+        keys: *const u8,
+        key_count: usize,
+        confidences: *const f32,
+        confidence_count: usize,
+        bytes: *mut u8,
+        lent: usize,
+    ) -> Written;
+}
+
+/// Writes a card to the front of the bytes; those behind it stay.
+pub fn write_card(told: &CardFields<'_>, bytes: &mut [u8]) -> Written {
+    // SAFETY: each pointer and count are one slice, which outlives the call; the bytes are exclusive.
+    unsafe {
+        ulyptesh_write_card(
+            told.key,
+            told.dsp_key,
+            told.alternate,
+            told.coverage,
+            told.confidence,
+            told.starts.as_ptr(),
+            told.starts.len(),
+            told.ends.as_ptr(),
+            told.ends.len(),
+            told.keys.as_ptr(),
+            told.keys.len(),
+            told.confidences.as_ptr(),
+            told.confidences.len(),
+            bytes.as_mut_ptr(),
+            bytes.len(),
+        )
+    }
+}

@@ -1,0 +1,39 @@
+//! The library's calls one by one, over memory that the caller lends.
+//!
+//! A slice crosses the C interface as two arguments, pointer and count. Each call here lends Rust slices for its own
+//! length; the library keeps no pointer, allocates nothing and has no state. The structs are those of
+//! `include/ulyptesh.h`, so they change with [`ABI`].
+mod analysis;
+mod by_pointer;
+mod cards;
+mod chroma;
+mod frames;
+mod interface;
+mod names;
+mod rows;
+mod sheet;
+mod written;
+
+pub use analysis::{AnalyseResult, analyse};
+#[doc(hidden)] // for the leaves of the comparison, which answer in the same way
+pub use by_pointer::answer_of;
+pub use cards::{CardFields, LONGEST_CARD, write_card};
+pub use chroma::{KeyResult, ScoresResult, WRONG_LENGTH, key, scores};
+pub use frames::{FramesResult, frames};
+pub use interface::{ABI, abi};
+pub use names::{LONGEST_NAME, write_key_name};
+pub use rows::{Buffers, EstimateRows, FrameRows, SegmentRows, frame_positions, windows};
+pub use sheet::{Sheet, SheetHead};
+pub use written::{TOO_FEW_BYTES, UNWRITABLE, Written};
+
+/// A chroma has a number for each pitch class, from C upward.
+pub const PITCH_CLASSES: usize = 12;
+
+/// The keys: 12 major ones from C upward, then 12 minor ones.
+pub const KEYS: usize = 24;
+
+/// The number of a key that is missing.
+pub const NO_KEY: u32 = 24;
+
+/// The longest track, in seconds.
+pub const LONGEST_TRACK_SECONDS: usize = 14_400;

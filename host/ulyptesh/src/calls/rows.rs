@@ -1,0 +1,126 @@
+//! What the calls are lent to write, and how much a track needs.
+use super::{LONGEST_TRACK_SECONDS, PITCH_CLASSES};
+use crate::settings::Settings;
+
+/// Rows for frames. The shortest list is the room.
+#[derive(Debug, Clone, Default, PartialEq)]
+pub struct FrameRows {
+    /// A frame's centre in seconds.
+    pub centres: Vec<f64>,
+    /// Its chroma.
+    pub values: Vec<[f32; PITCH_CLASSES]>,
+    /// Its energy.
+    pub energies: Vec<f32>,
+}
+
+/// Rows for estimates. The shortest list is the room.
+#[derive(Debug, Clone, Default, PartialEq)]
+pub struct EstimateRows {
+    /// A window's middle in seconds.
+    pub middles: Vec<f64>,
+    /// The number of the key that it tells.
+    pub numbers: Vec<u8>,
+    /// The confidence in it.
+    pub certainties: Vec<f32>,
+}
+
+/// Rows for segments. The shortest list is the room.
+#[derive(Debug, Clone, Default, PartialEq)]
+pub struct SegmentRows {
+    /// Where a segment starts, in seconds.
+    pub starts: Vec<f64>,
+    /// Where it ends, in seconds.
+    pub ends: Vec<f64>,
+    /// The number of its key.
+    pub keys: Vec<u8>,
+    /// The confidence in it.
+    pub confidences: Vec<f32>,
+}
+
+/// Two windows a second of the longest track, and one: no track that is analysed has more.
+const MOST_WINDOWS: usize = 2 * LONGEST_TRACK_SECONDS + 1;
+
+/// How many frames fit into a track: so many frame rows and work numbers are asked for.
+pub fn frame_positions(settings: &Settings, samples: usize) -> usize {
+    let Settings { frame_size, hop_size, .. } = *settings;
+    let behind_first = samples.checked_sub(frame_size);
+    behind_first.and_then(|samples| samples.checked_div(hop_size)).map_or(0, |hops| hops + 1)
+}
+
+/// How many estimates and segments are asked for: one for each local window, or one where the track is shorter than
+/// window and hop.
+pub fn windows(settings: &Settings, samples: usize) -> usize {
+    let (window, hop): (f64, f64) = (settings.local_window_seconds.into(), settings.local_hop_seconds.into());
+    let duration = samples as f64 / f64::from(settings.rate);
+    if duration < window + hop {
+        return 1;
+    }
+    let starts = std::iter::successors(Some(0.0), |start| Some(start + hop));
+    starts.take(MOST_WINDOWS).take_while(|start| start + window <= duration).count()
+}
+
+/// What an analysis is lent to write. The shortest list of a kind is its room.
+#[derive(Debug, Clone, Default, PartialEq)]
+pub struct Buffers {
+    /// A row for each frame position.
+    pub frames: FrameRows,
+    /// A number for each frame position, to work with.
+    pub work: Vec<f32>,
+    /// A row for each window.
+    pub estimates: EstimateRows,
+    /// A row for each window.
+    pub segments: SegmentRows,
+}
+
+/// Zeros are added up to this length.
+fn grow<A: Clone + Default>(list: &mut Vec<A>, length: usize) {
+    list.resize(list.len().max(length), A::default());
+}
+
+impl Buffers {
+    /// Zeros, as many as a track of so many samples needs.
+    pub fn for_track(settings: &Settings, samples: usize) -> Self {
+        let mut lent = Self::default();
+        lent.grow_for(settings, samples);
+        lent
+    }
+
+    /// At least as many as a track of so many samples needs; what is there stays.
+    pub fn grow_for(&mut self, settings: &Settings, samples: usize) {
+        let (positions, windows) = (frame_positions(settings, samples), windows(settings, samples));
+        self.grow_frames_for(settings, samples);
+        let Self { work, estimates, segments, .. } = self;
+        grow(work, positions);
+        grow(&mut estimates.middles, windows);
+        grow(&mut estimates.numbers, windows);
+        grow(&mut estimates.certainties, windows);
+        grow(&mut segments.starts, windows);
+        grow(&mut segments.ends, windows);
+        grow(&mut segments.keys, windows);
+        grow(&mut segments.confidences, windows);
+    }
+
+    /// At least as many frame rows as a track of so many samples needs; what is there stays.
+    pub fn grow_frames_for(&mut self, settings: &Settings, samples: usize) {
+        let (positions, frames) = (frame_positions(settings, samples), &mut self.frames);
+        grow(&mut frames.centres, positions);
+        grow(&mut frames.values, positions);
+        grow(&mut frames.energies, positions);
+    }
+
+    /// How much memory is lent.
+    pub fn bytes(&self) -> usize {
+        let Self { frames, work, estimates, segments } = self;
+        size_of_val(&*frames.centres)
+            + size_of_val(&*frames.values)
+            + size_of_val(&*frames.energies)
+            + size_of_val(&**work)
+            + size_of_val(&*estimates.middles)
+            + size_of_val(&*estimates.numbers)
+            + size_of_val(&*estimates.certainties)
+            + size_of_val(&*segments.starts)
+            + size_of_val(&*segments.ends)
+            + size_of_val(&*segments.keys)
+            + size_of_val(&*segments.confidences)
+    }
+}

@@ -1,0 +1,34 @@
+//! The musical key of a track: safe Rust over the calls of the verified library.
+//!
+//! An [`Analyzer`] is all that a planner needs: mono samples in, key, alternate key and key segments out.
+//! [`key`] and [`scores`] judge a single chroma, and [`calls`] has the library's calls one by one, over lent memory.
+//!
+//! The library is proved for the floating-point environment that a program starts with: round to nearest, and
+//! subnormal numbers kept. Nothing here reads or sets it: code that has set flush to zero, as audio hosts do, takes
+//! that back around a call.
+#![warn(missing_docs)]
+
+mod analyzer;
+pub mod calls;
+mod card;
+mod chroma;
+mod found;
+mod keys;
+mod notation;
+mod refusal;
+mod settings;
+mod tables;
+
+pub use analyzer::{Analyzer, LoudFrame};
+pub use card::{CardError, card};
+pub use chroma::{Chroma, FoundKey, key, scores};
+pub use found::{Alternate, Analysis, Segment};
+pub use keys::{Key, Mode, NoSuchKey, Tonic};
+pub use notation::{NoSuchNotation, Notation, UnknownKey};
+pub use refusal::Refusal;
+pub use settings::Settings;
+
+/// The Rust of the README's quick start, compiled and run with the documentation's tests.
+#[cfg(doctest)]
+#[doc = include_str!("../../../README.md")]
+struct Readme;

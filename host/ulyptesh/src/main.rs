@@ -1,0 +1,6 @@
+//! The library from a terminal.
+mod tool;
+
+fn main() -> std::process::ExitCode {
+    tool::main()
+}

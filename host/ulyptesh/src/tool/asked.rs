@@ -1,0 +1,187 @@
+//! What `analyse` is asked: files, settings, the form of the answer, and what else is written.
+use super::failure::{Failure, bad_usage, refused_about, shown};
+use super::samples::STANDARD_INPUT;
+use super::settings;
+use super::words::{Known, Words, alone, with_word};
+use std::collections::HashMap;
+use std::ffi::{OsStr, OsString};
+use std::fs::canonicalize;
+use std::num::NonZeroUsize;
+use std::path::{Path, PathBuf};
+use ulyptesh::{NoSuchNotation, Notation, Settings};
+
+/// The options beside those for settings.
+pub const OPTIONS: [Known; 9] = [
+    alone("--json"),
+    alone("--json-lines"),
+    alone("--key-only"),
+    with_word("--notation"),
+    with_word("--jobs"),
+    with_word("--card"),
+    with_word("--svg"),
+    with_word("--cards"),
+    with_word("--svgs"),
+];
+
+/// The word for standard output.
+const STANDARD_OUTPUT: &str = "-";
+
+/// What is printed about a track.
+#[derive(Clone, Copy, PartialEq)]
+pub enum Form {
+    Text,
+    KeyOnly,
+    Json,
+    JsonLines,
+    Card,
+    Svg,
+}
+
+/// Where one kind of file goes.
+enum Target {
+    Nowhere,
+    Printed,
+    File(PathBuf),
+    /// Under each track's name, with the extension of the kind.
+    Folder(PathBuf),
+}
+
+impl Target {
+    fn read(words: &Words, file: &str, folder: &str) -> Result<Self, Failure> {
+        match (words.word(file), words.word(folder)) {
+            (None, None) => Ok(Self::Nowhere),
+            (Some(_), Some(_)) => Err(bad_usage(format!("{file} and {folder} do not go together"))),
+            (Some(word), None) if word == STANDARD_OUTPUT => Ok(Self::Printed),
+            (Some(word), None) => Ok(Self::File(word.into())),
+            (None, Some(word)) if Path::new(word).is_dir() => Ok(Self::Folder(word.into())),
+            (None, Some(word)) => Err(refused_about(word, "is no folder")),
+        }
+    }
+
+    /// Where the file of a track goes.
+    fn place(&self, track: &OsStr, extension: &str) -> Option<PathBuf> {
+        match self {
+            Self::Nowhere | Self::Printed => None,
+            Self::File(place) => Some(place.clone()),
+            Self::Folder(folder) => {
+                let mut name = Path::new(track).file_stem()?.to_os_string();
+                name.push(format!(".{extension}"));
+                Some(folder.join(name))
+            }
+        }
+    }
+
+    fn is_printed(&self) -> bool {
+        matches!(self, Self::Printed)
+    }
+}
+
+/// One call of `analyse`.
+pub struct Asked {
+    pub files: Vec<OsString>,
+    pub settings: Settings,
+    pub form: Form,
+    pub notation: Option<Notation>,
+    pub jobs: usize,
+    card: Target,
+    svg: Target,
+}
+
+/// The form that is asked for; a card or a picture on standard output stands there alone.
+fn form(words: &Words, card: &Target, svg: &Target) -> Result<Form, Failure> {
+    let forms = [
+        (words.has("--json"), Form::Json),
+        (words.has("--json-lines"), Form::JsonLines),
+        (words.has("--key-only"), Form::KeyOnly),
+        (card.is_printed(), Form::Card),
+        (svg.is_printed(), Form::Svg),
+    ];
+    let mut asked = forms.into_iter().filter(|form| form.0).map(|form| form.1);
+    match (asked.next(), asked.next()) {
+        (Some(_), Some(_)) => {
+            Err(bad_usage("of --json, --json-lines, --key-only and a file to standard output one can be had"))
+        }
+        (form, _) => Ok(form.unwrap_or(Form::Text)),
+    }
+}
+
+/// The notation that is asked for.
+pub fn notation(words: &Words) -> Result<Option<Notation>, Failure> {
+    words.value("--notation", &format!("a notation: {NoSuchNotation}"))
+}
+
+/// A name that is the same for all names of one file, whether it is there or not.
+fn identity(name: &Path) -> PathBuf {
+    let beside = || Some(canonicalize(name.parent()?).ok()?.join(name.file_name()?));
+    let here = || Some(canonicalize(".").ok()?.join(name));
+    canonicalize(name).ok().or_else(beside).or_else(here).unwrap_or(name.into())
+}
+
+impl Asked {
+    pub fn read(words: &Words) -> Result<Self, Failure> {
+        let files = words.plain.clone();
+        if files.is_empty() {
+            return Err(bad_usage("no file is named"));
+        }
+        let settings = settings::read(words)?;
+        let card = Target::read(words, "--card", "--cards")?;
+        let svg = Target::read(words, "--svg", "--svgs")?;
+        let jobs: Option<NonZeroUsize> = words.value("--jobs", "a number of jobs above 0")?;
+        let form = form(words, &card, &svg)?;
+        let (notation, jobs) = (notation(words)?, jobs.map_or(1, usize::from));
+        let asked = Self { files, settings, form, notation, jobs, card, svg };
+        asked.check()?;
+        Ok(asked)
+    }
+
+    /// Where the card of a track goes.
+    pub fn card_place(&self, track: &OsStr) -> Option<PathBuf> {
+        self.card.place(track, "card")
+    }
+
+    /// Where the picture of a track goes.
+    pub fn svg_place(&self, track: &OsStr) -> Option<PathBuf> {
+        self.svg.place(track, "svg")
+    }
+
+    /// What can be told to be wrong before any file is read.
+    fn check(&self) -> Result<(), Failure> {
+        let for_one = |target: &Target| matches!(target, Target::File(_) | Target::Printed);
+        let for_each = |target: &Target| matches!(target, Target::Folder(_));
+        let from_input = self.files.iter().filter(|file| *file == STANDARD_INPUT).count();
+        if self.files.len() > 1 && (for_one(&self.card) || for_one(&self.svg)) {
+            return Err(bad_usage("--card and --svg go with one file; --cards and --svgs with several"));
+        }
+        if from_input > 1 {
+            return Err(bad_usage("standard input can be read once"));
+        }
+        if from_input > 0 && (for_each(&self.card) || for_each(&self.svg)) {
+            return Err(bad_usage("standard input has no name for --cards and --svgs"));
+        }
+        if self.notation.is_some() && !matches!(self.form, Form::Text | Form::KeyOnly) {
+            return Err(bad_usage("--notation goes with text and --key-only"));
+        }
+        self.check_places()
+    }
+
+    /// No file is written twice, and none that is read.
+    fn check_places(&self) -> Result<(), Failure> {
+        let mut taken: HashMap<PathBuf, (&str, &OsStr)> = HashMap::new();
+        for track in &self.files {
+            for (what, place) in [("card", self.card_place(track)), ("picture", self.svg_place(track))] {
+                let Some(place) = place else { continue };
+                if let Some((other, its_track)) = taken.insert(identity(&place), (what, track)) {
+                    let (track, its_track, place) =
+                        (shown(track), shown(its_track), shown(place.as_os_str()));
+                    let both = format!("the {other} of {its_track} and the {what} of {track}");
+                    return Err(bad_usage(format!("{both} would be the same file, {place}")));
+                }
+            }
+        }
+        let read_too = self.files.iter().find(|track| taken.contains_key(&identity(Path::new(track))));
+        match read_too {
+            Some(track) => Err(bad_usage(format!("{} is read, so it is not written", shown(track)))),
+            None => Ok(()),
+        }
+    }
+}

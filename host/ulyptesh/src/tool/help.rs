@@ -1,0 +1,80 @@
+//! What the tool says of itself.
+
+pub const VERSION: &str = concat!("ulyptesh ", env!("CARGO_PKG_VERSION"));
+
+pub const INTRODUCTION: &str = "\
+ulyptesh tells the musical key of tracks.
+
+  ulyptesh analyse FILE.. --rate N    key, alternate key and key segments of each track
+  ulyptesh key-at FILE SECONDS.. --rate N    the key that sounds at a mix point
+  ulyptesh key NUMBER x12             the key of a chroma
+  ulyptesh key-name NUMBER            the name of a key
+  ulyptesh demo                       the library at work on a built-in track
+  ulyptesh help COMMAND               one command alone
+  ulyptesh --version                  the version of the tool and of the library's interface
+";
+
+pub const ANALYSE: &str = "\
+ulyptesh analyse FILE.. --rate N [OPTION..]
+  The key, confidence, alternate key and key segments of each track, each as it is done.
+  FILE            raw mono samples, 32-bit little-endian floats; - is standard input. For any other file:
+                  ffmpeg -v error -i FILE -f f32le -ac 1 -ar N - | ulyptesh analyse - --rate N
+  --rate N        samples in a second, up to 192000
+
+  Of several segments the key is the longest one's. Where there is one segment, the key is that of the
+  whole track's chroma, and its segment may tell another: that one is then the alternate, with all of
+  the track. The confidence is the whole chroma's, so it is low where a track changes its key.
+
+  --json          an array with an object for each track
+  --json-lines    an object a line for each track
+  --key-only      the key alone, a line for each track; of several with a tab and the file's name
+  --notation WORD keys as sharps (C# minor), flats (Db minor), camelot (12A) or open-key (5m)
+  --card OUT      also writes the key card, for one file; - is standard output, in place of the text
+  --svg OUT       also draws the segments and the chroma over time, likewise
+  --cards DIR     also writes the key card of each track into a folder, as NAME.card
+  --svgs DIR      also draws each track into a folder, as NAME.svg
+  --jobs N        so many tracks at a time; answers come as they are done
+";
+
+pub const SETTINGS: &str = "\
+Settings of analyse and key-at, with what they are where they are not given:
+  --window S              length of a local window in seconds, 12
+  --local-hop S           from a window's start to the next one's, at least 0.5; 6
+  --segment-confidence P  confidence from which a window of another key starts a segment, 0.35
+  --minimum-segment S     a shorter segment is joined to a neighbour, 12
+  --coverage P            part of the track from which an alternate is named, 0.25; 0 for never
+  --notes LO-HI           MIDI notes that are listened to, 36-95
+  --frame-size N          samples in a frame, 32 to 65536; 4096
+  --hop-size N            samples from a frame's start to the next one's, up to 1048576; 2048
+";
+
+pub const KEY_AT: &str = "\
+ulyptesh key-at FILE SECONDS.. --rate N [--notation WORD] [SETTING..]
+  The key that sounds at each mix point; of several with the time before it.
+";
+
+pub const KEY: &str = "\
+ulyptesh key NUMBER x12 [--notation WORD]
+  The key of a chroma: a number for each pitch class, from C upward. The best score is the highest of
+  the 24, which is the relative key's where that one was not taken.
+";
+
+pub const KEY_NAME: &str = "\
+ulyptesh key-name NUMBER [--notation WORD]
+  The name of one key: 0 is C major, 11 B major, 12 C minor, 23 B minor.
+";
+
+pub const DEMO: &str = "\
+ulyptesh demo [--svg OUT] [--track OUT]
+  The 24 keys, the key of a triad, and a built-in track of 80 s at 44100 Hz with its card.
+  --svg OUT       also draws the track
+  --track OUT     also writes its samples, for ulyptesh analyse OUT --rate 44100
+";
+
+pub const ENDING: &str = "\
+An option's word may stand behind an equals sign, as --rate=44100; words behind -- are plain ones.
+OUT is replaced where it is there, and written only where all went well: first the answer is out, then
+the files are put into their places. A track that fails does not keep others from being analysed.
+The tool neither reads nor sets the floating-point environment.
+Exit status: 0, or 1 where a track was refused or not read, or 2 for bad usage.
+";

@@ -1,0 +1,189 @@
+//! An analysis as a picture: the segments along the time, and the chroma below them.
+use super::heat_map::{self, BOTTOM};
+use super::text::named;
+use ulyptesh::LoudFrame;
+use ulyptesh::{Analysis, Analyzer, Key, Mode, Segment};
+
+/// Where time begins, and how far it goes.
+pub const LEFT: usize = 60;
+pub const WIDTH: usize = 910;
+
+/// The segments' blocks.
+const BLOCKS: usize = 68;
+const BLOCK_HEIGHT: usize = 58;
+
+/// Around a segment, and around the only one where the reported key is another.
+const SEGMENT_BORDER: &str = "stroke=\"#fff\"";
+const OTHER_BORDER: &str = "stroke=\"#b00\" stroke-width=\"2\" stroke-dasharray=\"8 5\"";
+
+/// Letters of the large and of the small text are at most so wide.
+const LARGE_LETTER: f64 = 10.5;
+const SMALL_LETTER: f64 = 7.0;
+
+/// The longest name that fits beneath the title.
+const LONGEST_NAME: usize = 90;
+
+/// Seconds from tick to tick; the first that gives few enough is taken.
+const STEPS: [f64; 15] =
+    [0.1, 0.2, 0.5, 1.0, 2.0, 5.0, 10.0, 15.0, 30.0, 60.0, 120.0, 300.0, 600.0, 1_200.0, 1_800.0];
+const MOST_TICKS: f64 = 12.0;
+
+pub struct Picture<'a> {
+    name: &'a str,
+    told: &'a Analysis,
+    frames: Vec<LoudFrame>,
+    /// Seconds of a frame.
+    frame: f64,
+}
+
+/// Text as it may stand in XML.
+fn escaped(text: &str) -> String {
+    let escape = |c: char| match c {
+        '&' => "&amp;".into(),
+        '<' => "&lt;".into(),
+        '>' => "&gt;".into(),
+        '"' => "&quot;".into(),
+        c if c.is_control() || ('\u{fffe}'..='\u{ffff}').contains(&c) => " ".into(),
+        c => c.to_string(),
+    };
+    text.chars().map(escape).collect()
+}
+
+/// The end of a long name, which tells most.
+fn shortened(name: &str) -> String {
+    let letters: Vec<char> = name.chars().collect();
+    match letters.len().checked_sub(LONGEST_NAME) {
+        None | Some(0) => name.into(),
+        Some(over) => format!("...{}", letters[over + 3..].iter().collect::<String>()),
+    }
+}
+
+/// Minutes and seconds, with hours where there are any; tenths of a second where the whole track has few.
+fn clock(seconds: f64, duration: f64) -> String {
+    if duration < 10.0 {
+        return format!("{seconds:.1} s");
+    }
+    let whole = seconds.round() as u64;
+    let (hours, minutes, seconds) = (whole / 3600, whole / 60 % 60, whole % 60);
+    if hours > 0 { format!("{hours}:{minutes:02}:{seconds:02}") } else { format!("{minutes}:{seconds:02}") }
+}
+
+/// Around the Camelot wheel by hue, light enough for dark text; minor keys are the darker ones.
+fn colour(key: Key) -> String {
+    let (saturation, lightness) = if key.mode() == Mode::Minor { (0.55, 0.68) } else { (0.75, 0.80) };
+    let hue = f64::from(key.camelot_number() - 1) / 12.0;
+    let reach = saturation * f64::min(lightness, 1.0 - lightness);
+    let channel = |offset: f64| {
+        let place = (offset + hue * 12.0) % 12.0;
+        let turn = f64::min(place - 3.0, 9.0 - place).clamp(-1.0, 1.0);
+        ((lightness - reach * turn) * 255.0).round() as u8
+    };
+    format!("#{:02x}{:02x}{:02x}", channel(0.0), channel(8.0), channel(4.0))
+}
+
+impl<'a> Picture<'a> {
+    /// Of the track that was analysed last.
+    pub fn new(name: &'a str, told: &'a Analysis, analyzer: &Analyzer) -> Self {
+        let settings = analyzer.settings();
+        let frame = settings.frame_size as f64 / f64::from(settings.rate);
+        Self { name, told, frames: analyzer.loud_frames().collect(), frame }
+    }
+
+    fn x(&self, seconds: f64) -> f64 {
+        LEFT as f64 + seconds / self.told.duration * WIDTH as f64
+    }
+
+    fn clock(&self, seconds: f64) -> String {
+        clock(seconds, self.told.duration)
+    }
+
+    fn title(&self) -> String {
+        let told = self.told;
+        let Some(key) = told.key else { return "no key".into() };
+        let alternate = told.alternate.map_or("no alternate".into(), |other| {
+            format!("alternate {}, {:.3} of the track", named(other.key, None), other.coverage)
+        });
+        format!("{}, confidence {:.3}; {alternate}", named(key, None), told.confidence)
+    }
+
+    fn subtitle(&self) -> String {
+        let (name, frames) = (shortened(self.name), self.told.loud_frame_count);
+        let lone =
+            self.told.lone_other_key().map_or("", |_| "; the key is the whole track's, not its segment's");
+        format!("{name}: {:.2} s, {frames} loud frames{lone}", self.told.duration)
+    }
+
+    /// A line of a block at this height, where it is short enough.
+    fn line(&self, segment: &Segment, text: &str, letter: f64, below: usize, style: &str) -> String {
+        let (left, right) = (self.x(segment.start), self.x(segment.end));
+        if text.len() as f64 * letter > right - left {
+            return String::new();
+        }
+        let (middle, y) = ((left + right) / 2.0, BLOCKS + below);
+        format!("<text x=\"{middle:.1}\" y=\"{y}\"{style}>{text}</text>")
+    }
+
+    fn block(&self, segment: &Segment) -> String {
+        let (left, key) = (self.x(segment.start), segment.key);
+        let width = self.x(segment.end) - left;
+        let times = format!("{} to {}", self.clock(segment.start), self.clock(segment.end));
+        let confidence = format!("confidence {:.3}", segment.confidence);
+        let border = self.told.lone_other_key().map_or(SEGMENT_BORDER, |_| OTHER_BORDER);
+        let lines = [
+            self.line(segment, &named(key, None), LARGE_LETTER, 20, " font-size=\"15\" font-weight=\"bold\""),
+            self.line(segment, &confidence, SMALL_LETTER, 36, ""),
+            self.line(segment, &times, SMALL_LETTER, 51, ""),
+        ];
+        format!(
+            "<g><title>{}, {times}, {confidence}</title>\
+             <rect x=\"{left:.1}\" y=\"{BLOCKS}\" width=\"{width:.1}\" height=\"{BLOCK_HEIGHT}\" fill=\"{}\" \
+             {border}/>{}</g>\n",
+            named(key, None),
+            colour(key),
+            lines.concat()
+        )
+    }
+
+    fn tick(&self, seconds: f64) -> String {
+        let (x, label) = (self.x(seconds), self.clock(seconds));
+        let mark = |y: usize| {
+            format!(
+                "<path d=\"M{x:.1} {y}v6\" stroke=\"#555\"/><text x=\"{x:.1}\" y=\"{}\">{label}</text>\n",
+                y + 20
+            )
+        };
+        mark(BLOCKS + BLOCK_HEIGHT) + &mark(BOTTOM)
+    }
+
+    fn axis(&self) -> String {
+        let duration = self.told.duration;
+        let step = STEPS.into_iter().find(|step| duration / step <= MOST_TICKS).unwrap_or(3_600.0);
+        let ticks = (0..).map(|nth| f64::from(nth) * step).take_while(|&seconds| seconds <= duration);
+        ticks.map(|seconds| self.tick(seconds)).collect()
+    }
+
+    /// What lies along the time; nothing where the track has no length.
+    fn plot(&self) -> String {
+        if self.told.duration <= 0.0 {
+            return String::new();
+        }
+        let blocks: String = self.told.segments.iter().map(|segment| self.block(segment)).collect();
+        let map = heat_map::drawn(&self.frames, self.frame, self.told.duration);
+        format!("<g text-anchor=\"middle\">\n{blocks}{}</g>\n{map}", self.axis())
+    }
+}
+
+/// The picture as SVG: 1,000 by 420, dark on light.
+pub fn svg(picture: &Picture<'_>) -> String {
+    format!(
+        "<svg xmlns=\"http://www.w3.org/2000/svg\" viewBox=\"0 0 1000 420\" width=\"1000\" height=\"420\" \
+         font-family=\"sans-serif\" font-size=\"12\" fill=\"#222\">\n\
+         <rect width=\"1000\" height=\"420\" fill=\"#fff\"/>\n\
+         <text x=\"{LEFT}\" y=\"32\" font-size=\"18\" font-weight=\"bold\">{}</text>\n\
+         <text x=\"{LEFT}\" y=\"54\" font-size=\"13\" fill=\"#555\">{}</text>\n{}\
+         </svg>\n",
+        escaped(&picture.title()),
+        escaped(&picture.subtitle()),
+        picture.plot(),
+    )
+}

@@ -1,0 +1,32 @@
+//! A line on a terminal that tells how far the work is.
+use super::failure::shown;
+use std::ffi::OsStr;
+use std::io::{IsTerminal, Write, stderr};
+
+/// To the front of the line, and all behind it cleared.
+const CLEARED: &str = "\r\x1b[K";
+
+pub struct Progress {
+    is_shown: bool,
+    files: usize,
+}
+
+impl Progress {
+    /// Nothing is shown where standard error is no terminal.
+    pub fn new(files: usize) -> Self {
+        Self { is_shown: stderr().is_terminal(), files }
+    }
+
+    /// So many files are done, and this one is begun.
+    pub fn show(&self, done: usize, file: &OsStr) {
+        if self.is_shown {
+            drop(write!(stderr(), "{CLEARED}{done} of {} done: {}", self.files, shown(file)));
+        }
+    }
+
+    pub fn clear(&self) {
+        if self.is_shown {
+            drop(write!(stderr(), "{CLEARED}"));
+        }
+    }
+}

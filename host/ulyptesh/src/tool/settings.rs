@@ -1,0 +1,59 @@
+//! The settings of an analysis, by options.
+use super::failure::{Failure, bad_usage, refused};
+use super::words::{Known, Words, with_word};
+use std::num::NonZeroU32;
+use std::str::FromStr;
+use ulyptesh::Settings;
+
+/// The options that all commands know that analyse.
+pub const OPTIONS: [Known; 9] = [
+    with_word("--rate"),
+    with_word("--window"),
+    with_word("--local-hop"),
+    with_word("--segment-confidence"),
+    with_word("--minimum-segment"),
+    with_word("--coverage"),
+    with_word("--notes"),
+    with_word("--frame-size"),
+    with_word("--hop-size"),
+];
+
+/// Two MIDI notes with a dash between them.
+struct Notes(u8, u8);
+
+impl FromStr for Notes {
+    type Err = ();
+
+    fn from_str(word: &str) -> Result<Self, ()> {
+        let (lowest, highest) = word.split_once('-').ok_or(())?;
+        Ok(Self(lowest.parse().map_err(drop)?, highest.parse().map_err(drop)?))
+    }
+}
+
+/// Puts an option's value into its place, where it is given.
+fn set<A: FromStr>(words: &Words, name: &str, what: &str, place: &mut A) -> Result<(), Failure> {
+    if let Some(value) = words.value(name, what)? {
+        *place = value;
+    }
+    Ok(())
+}
+
+/// The settings that the words ask for; such as analyse nothing are refused.
+pub fn read(words: &Words) -> Result<Settings, Failure> {
+    let rate: Option<NonZeroU32> = words.value("--rate", "a rate: a whole number above 0")?;
+    let rate = rate.ok_or_else(|| bad_usage("--rate is missing: raw samples do not tell their rate"))?;
+    let mut asked = Settings::for_rate(rate.get());
+    let mut notes = Notes(asked.minimum_midi_note, asked.maximum_midi_note);
+    let (seconds, part, samples) = ("a number of seconds", "a part from 0 to 1", "a number of samples");
+    set(words, "--window", seconds, &mut asked.local_window_seconds)?;
+    set(words, "--local-hop", seconds, &mut asked.local_hop_seconds)?;
+    set(words, "--segment-confidence", part, &mut asked.segment_confidence_threshold)?;
+    set(words, "--minimum-segment", seconds, &mut asked.minimum_segment_seconds)?;
+    set(words, "--coverage", part, &mut asked.alternate_coverage_threshold)?;
+    set(words, "--notes", "two MIDI notes such as 36-95", &mut notes)?;
+    set(words, "--frame-size", samples, &mut asked.frame_size)?;
+    set(words, "--hop-size", samples, &mut asked.hop_size)?;
+    (asked.minimum_midi_note, asked.maximum_midi_note) = (notes.0, notes.1);
+    asked.check().map_err(refused)?;
+    Ok(asked)
+}
