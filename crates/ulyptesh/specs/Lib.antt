@@ -1,3 +1,2 @@
 pub mod Analysis
-pub mod Interface
 pub mod Unique

@@ -13,8 +13,8 @@ use Rattle.chroma_calls.specs.FromChroma.{ScoresOutcome, scoresCall, keyCall}
 use Rattle.frames_call.specs.FramesOnly.{FramesOutcome, framesOnly}
 use Rattle.card_judge.specs.Analysed.{Analysis}
 use Rattle.card_call.specs.Cards.{cardCall}
+use Rattle.interface.specs.Interface.{interfaceNumber}
 use Rattle.ulyptesh.specs.Analysis.{Promised}
-use Rattle.ulyptesh.specs.Interface.{interfaceNumber}
 
 -- any two outcomes that a promise allows are equal
 abbrev pub OneOutcome : {O : Type 0} → (O → Type 0) → Type 0
