@@ -56,7 +56,7 @@ ulyptesh key-at FILE SECONDS.. --rate N [--notation WORD] [SETTING..]
 pub const KEY: &str = "\
 ulyptesh key NUMBER x12 [--notation WORD]
   The key of a chroma: a number for each pitch class, from C upward. The best score is the highest of
-  the 24, which is the relative key's where that one was not taken.
+  the 24; where the relative key was taken instead, that one's own is the second.
 ";
 
 pub const KEY_NAME: &str = "\

@@ -1,8 +1,9 @@
 //! Output files: all are written beside their places first, and put there once the answer is out.
 use super::failure::{Failure, refused_about};
-use std::fs;
+use std::fs::{self, Permissions};
 use std::io;
 use std::path::{Path, PathBuf};
+use std::sync::atomic::{AtomicUsize, Ordering};
 
 /// A chain of links is followed so far.
 const MOST_LINKS: usize = 40;
@@ -17,11 +18,19 @@ fn followed(name: &Path) -> PathBuf {
     place
 }
 
-/// A neighbour of the place, of this process alone.
+/// Tells the partial files of this process apart.
+static PARTIALS: AtomicUsize = AtomicUsize::new(0);
+
+/// A neighbour of the place, of this file alone.
 fn beside(place: &Path) -> PathBuf {
-    let mut name = place.to_path_buf().into_os_string();
-    name.push(format!(".{}.partial", std::process::id()));
-    name.into()
+    let (process, nth) = (std::process::id(), PARTIALS.fetch_add(1, Ordering::Relaxed));
+    place.with_file_name(format!(".ulyptesh-{process}-{nth}.partial"))
+}
+
+/// A new file with this content, and with the permissions of the one that it will replace.
+fn write_beside(partial: &Path, content: &[u8], replaced: Option<Permissions>) -> io::Result<()> {
+    fs::write(partial, content)?;
+    replaced.map_or(Ok(()), |permissions| fs::set_permissions(partial, permissions))
 }
 
 /// Files that stand beside their places, and are taken away again unless they are put there.
@@ -38,10 +47,10 @@ impl Prepared {
         let written = match fs::metadata(&place) {
             Ok(about) if about.is_dir() => Err(io::Error::other("is a folder")),
             Ok(about) if !about.is_file() => fs::write(&place, content),
-            _ => {
+            about => {
                 let partial = beside(&place);
                 self.waiting.push((partial.clone(), place, name.to_path_buf()));
-                fs::write(partial, content)
+                write_beside(&partial, content, about.ok().map(|about| about.permissions()))
             }
         };
         written.map_err(|why| refused_about(name.as_os_str(), why))

@@ -30,7 +30,7 @@ const CASES: [Case; 15] = [
 const KEY_HELP: &str = "\
 ulyptesh key NUMBER x12 [--notation WORD]
   The key of a chroma: a number for each pitch class, from C upward. The best score is the highest of
-  the 24, which is the relative key's where that one was not taken.
+  the 24; where the relative key was taken instead, that one's own is the second.
 ";
 
 /// How a run ended and what it printed.

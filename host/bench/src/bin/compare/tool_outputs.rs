@@ -8,6 +8,9 @@ use std::process::Stdio;
 /// A device on which nothing fits.
 const FULL: &str = "/dev/full";
 
+/// What may be done with the file that is there before.
+const PERMITTED: u32 = 0o640;
+
 /// What can be full.
 #[derive(Debug, Clone, Copy)]
 struct Full {
@@ -79,6 +82,7 @@ fn filled() -> Folder {
     folder.put_samples("good", &tone);
     folder.put_samples("silent", &[0.0; 16_000]);
     folder.put("old", b"old");
+    folder.permit("old", PERMITTED);
     folder.put_link("link", "old");
     folder.put_link("dangling", "behind");
     folder.make_folder("within");
@@ -112,8 +116,9 @@ fn is_picture(bytes: &[u8]) -> bool {
     bytes.starts_with(b"<svg ") && bytes.ends_with(b"</svg>\n")
 }
 
-/// Whether it ends well, every file is what it has to be, links are still links, and nothing else lies there.
-fn writes(writing: Writing) -> [bool; 5] {
+/// Whether it ends well, every file is what it has to be, links are still links, a file that is replaced may be used
+/// as before, and nothing else lies there.
+fn writes(writing: Writing) -> [bool; 6] {
     let folder = filled();
     let before = folder.content().len();
     let ended = folder.run(&split(writing.words));
@@ -125,6 +130,7 @@ fn writes(writing: Writing) -> [bool; 5] {
         all(writing.cards, is_card),
         all(writing.pictures, is_picture),
         folder.is_link("link") && folder.is_link("dangling"),
+        folder.permissions("old") == PERMITTED,
         folder.content().len() == before + writing.new,
     ]
 }
@@ -141,7 +147,7 @@ fn printed_alone(option: &str) -> (Vec<u8>, Vec<u8>) {
 pub fn compare(groups: &mut Groups) {
     let nothing_left = |_| Ended { status: Some(1), changes_files: false };
     groups.group("the tool where outputs are full", FULL_RUNS.into_iter(), on_full, nothing_left);
-    groups.group("the tool's files", WRITINGS.into_iter(), writes, |_| [true; 5]);
+    groups.group("the tool's files", WRITINGS.into_iter(), writes, |_| [true; 6]);
     let options = ["--card", "--svg"];
     let (ours, wanted) =
         (|nth: usize| printed_alone(options[nth]).0, |nth: usize| printed_alone(options[nth]).1);

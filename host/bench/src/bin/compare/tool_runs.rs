@@ -1,9 +1,9 @@
 //! Runs of the tool's program, in a folder of their own.
 use std::collections::BTreeMap;
 use std::ffi::OsStr;
-use std::fs;
+use std::fs::{self, Permissions};
 use std::io::Write;
-use std::os::unix::fs::symlink;
+use std::os::unix::fs::{MetadataExt, PermissionsExt, symlink};
 use std::path::PathBuf;
 use std::process::{Command, Output, Stdio, id};
 
@@ -42,6 +42,15 @@ impl Folder {
 
     pub fn is_link(&self, name: &str) -> bool {
         self.0.join(name).is_symlink()
+    }
+
+    /// What may be done with a file, as bits.
+    pub fn permissions(&self, name: &str) -> u32 {
+        fs::metadata(self.0.join(name)).expect("the file is there").mode() & 0o777
+    }
+
+    pub fn permit(&self, name: &str, bits: u32) {
+        fs::set_permissions(self.0.join(name), Permissions::from_mode(bits)).expect("the file is there");
     }
 
     pub fn make_folder(&self, name: &str) {
