@@ -293,7 +293,10 @@ static uint32_t equip(UlypteshEasy *easy, const UlypteshSettings *settings)
     refusal = analysed(easy, sheet->window, sheet->window_count).refusal;
     if (refusal == ULYPTESH_TOO_FEW_ROWS)
         return ULYPTESH_DONE;
-    return refusal == ULYPTESH_DONE ? (uint32_t)ULYPTESH_EASY_NOTHING_ANALYSED : refusal;
+    /* a frame that is longer than the longest track is in none */
+    if (refusal == ULYPTESH_DONE || refusal == ULYPTESH_TRACK_TOO_LONG)
+        return ULYPTESH_EASY_NOTHING_ANALYSED;
+    return refusal;
 }
 
 /* What the header declares */

@@ -33,7 +33,7 @@ fn link_library(folder: &Path, name: &str) {
 fn link_oracle(folder: &Path) {
     let oracle = folder.join("libkey_lime.rlib");
     println!("cargo::rustc-check-cfg=cfg(oracle)");
-    println!("cargo::rerun-if-changed={}", oracle.display());
+    println!("cargo::rerun-if-changed={}", folder.display());
     println!("cargo::rerun-if-env-changed={WITHOUT_ORACLE}");
     if oracle.exists() && env::var_os(WITHOUT_ORACLE).is_none() {
         println!("cargo::rustc-cfg=oracle");

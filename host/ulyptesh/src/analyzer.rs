@@ -18,6 +18,21 @@ pub struct LoudFrame {
     pub energy: f32,
 }
 
+/// What one local window of a track tells.
+#[non_exhaustive]
+#[derive(Debug, Clone, Copy, PartialEq)]
+pub struct Estimate {
+    /// The middle of the window in seconds.
+    pub middle: f64,
+    /// The key that it tells.
+    pub key: Key,
+    /// How clearly, from 0 to 1.
+    pub confidence: f32,
+}
+
+/// What the library answers where it is lent fewer rows than a track needs.
+const TOO_FEW_ROWS: u32 = 8;
+
 /// Settings and the sheet made for them; the two change together only.
 #[derive(Debug, Clone)]
 struct Tables {
@@ -31,27 +46,53 @@ impl Tables {
         settings.check()?;
         Ok(Self { settings, sheet: Sheet::for_call(&settings) })
     }
+
+    /// The sheet stays where it is for the other settings too.
+    fn set(&mut self, settings: Settings) -> Result<(), Refusal> {
+        if settings.head() == self.sheet.head {
+            settings.check()?;
+            self.settings = settings;
+        } else {
+            *self = Self::new(settings)?;
+        }
+        Ok(())
+    }
 }
 
 /// Owns what the library is lent, and uses it again from track to track.
 ///
-/// The tables are made for its settings, and made anew where these change: no track meets another rate's.
+/// The tables are made for its settings, and made anew where these change: no track meets another rate's. Give each
+/// thread an analyzer of its own.
+///
+/// ```
+/// # fn main() -> Result<(), Box<dyn std::error::Error>> {
+/// let mut analyzer = ulyptesh::Analyzer::for_rate(8_000)?;
+/// for pitch in [220.0, 440.0] {
+///     let step = pitch / 8_000.0 * std::f32::consts::TAU;
+///     let track: Vec<f32> = (0..40_000).map(|n| (n as f32 * step).sin()).collect();
+///     let told = analyzer.analyse(&track)?;
+///     println!("{:?}, a card of {} bytes", told.key, told.card()?.len());
+/// }
+/// # Ok(())
+/// # }
+/// ```
 #[derive(Debug, Clone)]
 pub struct Analyzer {
     tables: Tables,
     lent: Buffers,
-    loud: usize,
+    loud_frames: usize,
+    estimates: usize,
 }
 
 impl Analyzer {
-    /// For tracks of this rate, with the Rust's own settings.
+    /// For tracks of this rate, with the usual settings.
     pub fn for_rate(rate: u32) -> Result<Self, Refusal> {
         Self::new(Settings::for_rate(rate))
     }
 
     /// For tracks with these settings; refused where no track can be analysed with them.
     pub fn new(settings: Settings) -> Result<Self, Refusal> {
-        Ok(Self { tables: Tables::new(settings)?, lent: Buffers::default(), loud: 0 })
+        Ok(Self { tables: Tables::new(settings)?, lent: Buffers::default(), loud_frames: 0, estimates: 0 })
     }
 
     /// The settings.
@@ -59,20 +100,20 @@ impl Analyzer {
         &self.tables.settings
     }
 
-    /// Other settings from now on, with a new sheet where they differ; refused ones change nothing.
+    /// Other settings from now on, with new tables where they need them; refused ones change nothing.
     pub fn set(&mut self, settings: Settings) -> Result<(), Refusal> {
-        if settings != self.tables.settings {
-            self.tables = Tables::new(settings)?;
-        }
-        Ok(())
+        self.tables.set(settings)
     }
 
     /// Analyses a track: mono samples at the rate of the settings.
     pub fn analyse(&mut self, samples: &[f32]) -> Result<Analysis, Refusal> {
         let Tables { settings, sheet } = &self.tables;
-        self.lent.grow_for(settings, samples.len());
-        let told = calls::analyse(*settings, sheet, samples, &mut self.lent);
-        self.loud = told.frames as usize;
+        let mut told = calls::analyse(*settings, sheet, samples, &mut self.lent);
+        if told.refusal == TOO_FEW_ROWS {
+            self.lent.grow_for(settings, samples.len());
+            told = calls::analyse(*settings, sheet, samples, &mut self.lent);
+        }
+        (self.loud_frames, self.estimates) = (told.frames as usize, told.estimates as usize);
         match told.refusal {
             0 => Ok(found(&told, &self.lent.segments, duration(settings, samples.len()))),
             number => Err(Refusal::new(number, told.position, settings, samples.len())),
@@ -80,11 +121,17 @@ impl Analyzer {
     }
 
     /// The loud frames of a track alone.
-    pub fn frames(&mut self, samples: &[f32]) -> Result<impl Iterator<Item = LoudFrame>, Refusal> {
+    pub fn frames<'a>(
+        &'a mut self,
+        samples: &[f32],
+    ) -> Result<impl ExactSizeIterator<Item = LoudFrame> + use<'a>, Refusal> {
         let Tables { settings, sheet } = &self.tables;
-        self.lent.grow_frames_for(settings, samples.len());
-        let told = calls::frames(*settings, sheet, samples, &mut self.lent.frames);
-        self.loud = told.count as usize;
+        let mut told = calls::frames(*settings, sheet, samples, &mut self.lent.frames);
+        if told.refusal == TOO_FEW_ROWS {
+            self.lent.grow_frames_for(settings, samples.len());
+            told = calls::frames(*settings, sheet, samples, &mut self.lent.frames);
+        }
+        (self.loud_frames, self.estimates) = (told.count as usize, 0);
         match told.refusal {
             0 => Ok(self.loud_frames()),
             number => Err(Refusal::new(number, told.position, settings, samples.len())),
@@ -92,12 +139,22 @@ impl Analyzer {
     }
 
     /// The loud frames of the last track; where it was refused for a frame that is not finite, those before that one.
-    pub fn loud_frames(&self) -> impl Iterator<Item = LoudFrame> {
+    pub fn loud_frames(&self) -> impl ExactSizeIterator<Item = LoudFrame> {
         let rows = &self.lent.frames;
-        (0..self.loud).map(|row| LoudFrame {
+        (0..self.loud_frames).map(|row| LoudFrame {
             centre: rows.centres[row],
             chroma: rows.values[row],
             energy: rows.energies[row],
+        })
+    }
+
+    /// What the windows of the last track tell, in order; none where its frames alone were asked for.
+    pub fn estimates(&self) -> impl ExactSizeIterator<Item = Estimate> {
+        let rows = &self.lent.estimates;
+        (0..self.estimates).map(|row| Estimate {
+            middle: rows.middles[row],
+            key: Key::try_from(rows.numbers[row]).expect("an estimate has a key"),
+            confidence: rows.certainties[row],
         })
     }
 }

@@ -10,6 +10,7 @@ pub enum CardError {
     /// The fields break a card rule: too many segments, or numbers that no card holds.
     RuleBroken,
     /// A number that this crate does not know.
+    #[non_exhaustive]
     Unknown {
         /// The library's number.
         refusal: u32,
@@ -19,7 +20,10 @@ pub enum CardError {
 impl fmt::Display for CardError {
     fn fmt(&self, out: &mut fmt::Formatter<'_>) -> fmt::Result {
         match self {
-            Self::RuleBroken => write!(out, "the analysis breaks a card rule (refusal {UNWRITABLE})"),
+            Self::RuleBroken => write!(
+                out,
+                "no card holds the analysis, such as one of more than 1023 segments (refusal {UNWRITABLE})"
+            ),
             Self::Unknown { refusal } => {
                 write!(out, "the card was refused with the unknown number {refusal}")
             }

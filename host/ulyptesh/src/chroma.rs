@@ -28,7 +28,7 @@ pub fn scores(chroma: &Chroma) -> [f32; KEYS] {
     room
 }
 
-/// The key of a chroma.
+/// The key of a chroma, of the size that the library has: normalised to a sum of 1. Far from it scores lose digits.
 ///
 /// ```
 /// let found = ulyptesh::key(&[1.0, 0.0, 0.0, 0.0, 1.0, 0.0, 0.0, 1.0, 0.0, 0.0, 0.0, 0.0]);

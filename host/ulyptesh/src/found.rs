@@ -28,7 +28,8 @@ pub struct Alternate {
     pub coverage: f32,
 }
 
-/// The answer about one track. A track too short or too faint has no key, no segments and zeros.
+/// The answer about one track. One that is too short or too faint has no key, no segments, and zeros for confidence
+/// and chroma.
 #[non_exhaustive]
 #[derive(Debug, Clone, PartialEq)]
 pub struct Analysis {
@@ -38,13 +39,13 @@ pub struct Analysis {
     /// The key by profiles alone, before any reranking; the library reranks nothing, so it is the key.
     pub dsp_key: Option<Key>,
     /// Another key that much of the track is in. A lone segment of another key than the reported one is all of the
-    /// track, so its key is then the alternate, with a coverage of 1.
+    /// track, so with the usual threshold its key is then the alternate, with a coverage of 1.
     pub alternate: Option<Alternate>,
     /// How clearly the whole track's chroma tells its key, from 0 to 1; low where the track changes its key.
     pub confidence: f32,
     /// Of the whole track, normalised.
     pub chroma: Chroma,
-    /// In order and without gaps, from 0 to the end of the track.
+    /// In order and without gaps, from 0 to the end of the track; none without a key.
     pub segments: Vec<Segment>,
     /// How many frames were loud.
     pub loud_frame_count: usize,

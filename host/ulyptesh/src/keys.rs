@@ -1,7 +1,10 @@
 //! The 24 keys: tonic, mode, number and name.
-use crate::calls::{KEYS, LONGEST_NAME, PITCH_CLASSES, UNWRITABLE, write_key_name};
+use crate::calls::{KEYS, LONGEST_NAME, PITCH_CLASSES, write_key_name};
 use std::error::Error;
 use std::fmt;
+
+/// The tonics from C upward, as names of keys begin with them.
+const TONICS: [&str; PITCH_CLASSES] = ["C", "C#", "D", "D#", "E", "F", "F#", "G", "G#", "A", "A#", "B"];
 
 /// The pitch class that a key rests on.
 #[allow(missing_docs, reason = "the names say it")]
@@ -21,6 +24,12 @@ pub enum Tonic {
     B,
 }
 
+impl fmt::Display for Tonic {
+    fn fmt(&self, out: &mut fmt::Formatter<'_>) -> fmt::Result {
+        out.pad(TONICS[*self as usize])
+    }
+}
+
 impl Tonic {
     /// All of them, from C upward.
     #[rustfmt::skip]
@@ -38,6 +47,12 @@ pub enum Mode {
     Minor,
 }
 
+impl fmt::Display for Mode {
+    fn fmt(&self, out: &mut fmt::Formatter<'_>) -> fmt::Result {
+        out.pad(if *self == Self::Major { "major" } else { "minor" })
+    }
+}
+
 /// One of the 24 keys; in order, the major ones from C upward, then the minor ones.
 ///
 /// ```
@@ -46,10 +61,11 @@ pub enum Mode {
 /// assert_eq!(key, Key::new(Tonic::CSharp, Mode::Minor));
 /// assert_eq!(key.to_string(), "C# minor");
 /// ```
-#[derive(Debug, Clone, Copy, PartialEq, Eq, Hash, PartialOrd, Ord)]
+#[derive(Clone, Copy, PartialEq, Eq, Hash, PartialOrd, Ord)]
 pub struct Key(u8);
 
 /// The error for a number that no key has.
+#[non_exhaustive]
 #[derive(Debug, Clone, Copy, PartialEq, Eq)]
 pub struct NoSuchKey {
     /// The number.
@@ -58,7 +74,7 @@ pub struct NoSuchKey {
 
 impl fmt::Display for NoSuchKey {
     fn fmt(&self, out: &mut fmt::Formatter<'_>) -> fmt::Result {
-        write!(out, "{} is no key number: keys are 0 to 23 (refusal {UNWRITABLE})", self.number)
+        write!(out, "{} is no key number: keys are 0 to 23", self.number)
     }
 }
 
@@ -130,6 +146,13 @@ impl From<Key> for u8 {
     }
 }
 
+/// As its name, so that what holds keys can be read.
+impl fmt::Debug for Key {
+    fn fmt(&self, out: &mut fmt::Formatter<'_>) -> fmt::Result {
+        fmt::Display::fmt(self, out)
+    }
+}
+
 impl fmt::Display for Key {
     fn fmt(&self, out: &mut fmt::Formatter<'_>) -> fmt::Result {
         out.pad(&self.name())
@@ -147,6 +170,13 @@ mod tests {
             assert_eq!(Key::try_from(key.number()), Ok(key));
         }
         assert!(Key::ALL.is_sorted());
+    }
+
+    #[test]
+    fn names_are_of_tonic_and_mode() {
+        for key in Key::ALL {
+            assert_eq!(key.name(), format!("{} {}", key.tonic(), key.mode()));
+        }
     }
 
     #[test]

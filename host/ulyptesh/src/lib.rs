@@ -3,6 +3,17 @@
 //! An [`Analyzer`] is all that a planner needs: mono samples in, key, alternate key and key segments out.
 //! [`key`] and [`scores`] judge a single chroma, and [`calls`] has the library's calls one by one, over lent memory.
 //!
+//! ```
+//! # fn main() -> Result<(), Box<dyn std::error::Error>> {
+//! let samples: Vec<f32> = (0..441_000).map(|n| (n as f32 * 0.0627).sin()).collect();
+//! let told = ulyptesh::Analyzer::for_rate(44_100)?.analyse(&samples)?;
+//! println!("{:?} with a confidence of {}", told.key, told.confidence);
+//! # Ok(())
+//! # }
+//! ```
+//!
+//! An analysis takes up to 96 KiB of the stack.
+//!
 //! The library is proved for the floating-point environment that a program starts with: round to nearest, and
 //! subnormal numbers kept. Nothing here reads or sets it: code that has set flush to zero, as audio hosts do, takes
 //! that back around a call.
@@ -19,8 +30,8 @@ mod refusal;
 mod settings;
 mod tables;
 
-pub use analyzer::{Analyzer, LoudFrame};
-pub use card::{CardError, card};
+pub use analyzer::{Analyzer, Estimate, LoudFrame};
+pub use card::CardError;
 pub use chroma::{Chroma, FoundKey, key, scores};
 pub use found::{Alternate, Analysis, Segment};
 pub use keys::{Key, Mode, NoSuchKey, Tonic};

@@ -35,7 +35,7 @@ pub enum Notation {
 
 impl Notation {
     /// All of them.
-    pub const ALL: [Self; 4] = [Self::Sharps, Self::Flats, Self::Camelot, Self::OpenKey];
+    pub const ALL: &'static [Self] = &[Self::Sharps, Self::Flats, Self::Camelot, Self::OpenKey];
 
     /// The word for it, as the tool takes it.
     pub fn word(self) -> &'static str {
@@ -54,17 +54,24 @@ pub struct NoSuchNotation;
 
 impl fmt::Display for NoSuchNotation {
     fn fmt(&self, out: &mut fmt::Formatter<'_>) -> fmt::Result {
-        write!(out, "notations are {}", Notation::ALL.map(Notation::word).join(", "))
+        let words: Vec<&str> = Notation::ALL.iter().map(|notation| notation.word()).collect();
+        write!(out, "notations are {}", words.join(", "))
     }
 }
 
 impl Error for NoSuchNotation {}
 
+impl fmt::Display for Notation {
+    fn fmt(&self, out: &mut fmt::Formatter<'_>) -> fmt::Result {
+        out.pad(self.word())
+    }
+}
+
 impl FromStr for Notation {
     type Err = NoSuchNotation;
 
     fn from_str(word: &str) -> Result<Self, NoSuchNotation> {
-        Self::ALL.into_iter().find(|notation| notation.word() == word).ok_or(NoSuchNotation)
+        Self::ALL.iter().copied().find(|notation| notation.word() == word).ok_or(NoSuchNotation)
     }
 }
 
@@ -92,7 +99,13 @@ impl Key {
 
     /// The name with flats, such as "Db minor".
     pub fn flat_name(self) -> String {
-        format!("{} {}", FLATS[self.tonic() as usize], self.of_mode("major", "minor"))
+        format!("{} {}", FLATS[self.tonic() as usize], self.mode())
+    }
+
+    /// The tonic with an m behind it for minor, as "C#m", with sharps and with flats.
+    fn short_names(self) -> [String; 2] {
+        let (sharp, flat, minor) = (self.tonic(), FLATS[self.tonic() as usize], self.of_mode("", "m"));
+        [format!("{sharp}{minor}"), format!("{flat}{minor}")]
     }
 
     /// The key in this notation.
@@ -120,20 +133,26 @@ pub struct UnknownKey;
 impl fmt::Display for UnknownKey {
     fn fmt(&self, out: &mut fmt::Formatter<'_>) -> fmt::Result {
         let shown = Key::new(Tonic::CSharp, Mode::Minor);
-        let shown = Notation::ALL.map(|notation| shown.in_notation(notation)).join(", ");
-        write!(out, "not a key; one key in each notation: {shown}")
+        let shown: Vec<String> = Notation::ALL.iter().map(|notation| shown.in_notation(*notation)).collect();
+        write!(out, "not a key; one key in each notation: {}", shown.join(", "))
     }
 }
 
 impl Error for UnknownKey {}
 
-/// A key in any notation, in large or small letters.
+/// A key in any notation or by its short name, as "C#m": in large or small letters, with blanks around it or a zero
+/// before it.
 impl FromStr for Key {
     type Err = UnknownKey;
 
     fn from_str(text: &str) -> Result<Self, UnknownKey> {
-        let is_written = |key: Self, notation| key.in_notation(notation).eq_ignore_ascii_case(text);
-        let reads = |key: &Self| Notation::ALL.into_iter().any(|notation| is_written(*key, notation));
+        let text = text.trim();
+        let code = text.strip_prefix('0').filter(|code| code.starts_with(|c| ('1'..='9').contains(&c)));
+        let text = code.unwrap_or(text);
+        let reads = |key: &Self| {
+            let written = Notation::ALL.iter().map(|notation| key.in_notation(*notation));
+            written.chain(key.short_names()).any(|written| written.eq_ignore_ascii_case(text))
+        };
         Self::ALL.into_iter().find(reads).ok_or(UnknownKey)
     }
 }
@@ -142,20 +161,30 @@ impl FromStr for Key {
 mod tests {
     use super::*;
 
+    /// All ways in which a key is written.
+    fn written(key: Key) -> impl Iterator<Item = String> {
+        let notations = Notation::ALL.iter().map(move |notation| key.in_notation(*notation));
+        notations
+            .chain(key.short_names())
+            .flat_map(|written| [written.to_lowercase(), format!(" {written} ")])
+    }
+
     #[test]
-    fn every_notation_reads_back() {
-        for key in Key::ALL {
-            for notation in Notation::ALL {
-                let written = key.in_notation(notation);
-                assert_eq!(written.parse(), Ok(key), "{written}");
-                assert_eq!(written.to_lowercase().parse(), Ok(key), "{written}");
-            }
+    fn every_way_of_writing_reads_back() {
+        for (key, written) in Key::ALL.into_iter().flat_map(|key| written(key).map(move |text| (key, text))) {
+            assert_eq!(written.parse(), Ok(key), "{written}");
         }
     }
 
     #[test]
+    fn codes_may_have_a_zero_before_them() {
+        assert_eq!("08A".parse::<Key>(), "A minor".parse());
+        assert_eq!("01d".parse::<Key>(), "C".parse());
+    }
+
+    #[test]
     fn other_text_is_no_key() {
-        for text in ["", "C", "H major", "0A", "13A", "13m", "1c", "C  major", "C major "] {
+        for text in ["", "0", "H major", "0A", "13A", "13m", "008A", "1c", "C  major", "Cmm", "C#b"] {
             assert_eq!(text.parse::<Key>(), Err(UnknownKey), "{text}");
         }
     }
@@ -163,7 +192,7 @@ mod tests {
     #[test]
     fn notations_are_known_by_their_words() {
         for notation in Notation::ALL {
-            assert_eq!(notation.word().parse(), Ok(notation));
+            assert_eq!(notation.to_string().parse(), Ok(*notation));
         }
         assert_eq!("Camelot".parse::<Notation>(), Err(NoSuchNotation));
     }

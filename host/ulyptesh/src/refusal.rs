@@ -7,14 +7,20 @@ use std::fmt;
 #[non_exhaustive]
 #[derive(Debug, Clone, Copy, PartialEq)]
 pub enum Refusal {
-    /// With these settings every track is answered without a key.
-    NothingAnalysed,
+    /// With these settings every track is answered without a key, or refused as too long.
+    #[non_exhaustive]
+    NothingAnalysed {
+        /// What is wrong with them.
+        why: &'static str,
+    },
     /// 1: the rate is above 192,000.
+    #[non_exhaustive]
     RateTooHigh {
         /// The rate.
         rate: u32,
     },
     /// 2: the frame size is above 65,536, or the hop above 1,048,576.
+    #[non_exhaustive]
     FrameOrHopTooLarge {
         /// The frame size.
         frame_size: usize,
@@ -22,8 +28,13 @@ pub enum Refusal {
         hop_size: usize,
     },
     /// 3: one of the float settings is not finite.
-    SettingNotFinite,
+    #[non_exhaustive]
+    SettingNotFinite {
+        /// The setting.
+        name: &'static str,
+    },
     /// 4: there are more samples than 14,400 times the rate.
+    #[non_exhaustive]
     TrackTooLong {
         /// How many samples there are.
         samples: usize,
@@ -31,6 +42,7 @@ pub enum Refusal {
         rate: u32,
     },
     /// 5: the local hop is below half a second.
+    #[non_exhaustive]
     LocalHopTooShort {
         /// The local hop.
         seconds: f32,
@@ -42,6 +54,7 @@ pub enum Refusal {
     /// 8: fewer rows are lent than the track needs.
     TooLittleRoom,
     /// 9: a loud frame's energy or chroma is not finite.
+    #[non_exhaustive]
     FrameNotFinite {
         /// The frame's position, from 0.
         position: u64,
@@ -49,10 +62,35 @@ pub enum Refusal {
     /// 10: a window's start did not grow when the hop was added.
     WindowStandsStill,
     /// A number that this crate does not know.
+    #[non_exhaustive]
     Unknown {
         /// The library's number.
         number: u32,
     },
+}
+
+/// The first float setting that is not finite.
+fn not_finite(settings: &Settings) -> &'static str {
+    let named = [
+        ("local window", settings.local_window_seconds),
+        ("local hop", settings.local_hop_seconds),
+        ("coverage threshold", settings.alternate_coverage_threshold),
+        ("confidence threshold", settings.segment_confidence_threshold),
+    ];
+    named.into_iter().find(|(_, value)| !value.is_finite()).map_or("minimum segment", |(name, _)| name)
+}
+
+/// Why nothing is analysed with settings that the library takes.
+fn nothing_because(settings: &Settings) -> &'static str {
+    let reasons = [
+        (settings.rate == 0, "the rate is 0"),
+        (settings.frame_size < 32, "a frame has fewer than 32 samples"),
+        (settings.hop_size == 0, "the hop is 0"),
+        (settings.minimum_midi_note > settings.maximum_midi_note, "the lowest note is above the highest"),
+        (settings.local_window_seconds <= 0.0, "the local window is not above 0"),
+        (settings.local_hop_seconds <= 0.0, "the local hop is not above 0"),
+    ];
+    reasons.into_iter().find(|reason| reason.0).map_or("a frame is longer than four hours", |reason| reason.1)
 }
 
 impl Refusal {
@@ -60,10 +98,10 @@ impl Refusal {
     pub fn new(number: u32, position: u64, settings: &Settings, samples: usize) -> Self {
         let Settings { rate, frame_size, hop_size, local_hop_seconds: seconds, .. } = *settings;
         match number {
-            0 => Self::NothingAnalysed,
+            0 => Self::NothingAnalysed { why: nothing_because(settings) },
             1 => Self::RateTooHigh { rate },
             2 => Self::FrameOrHopTooLarge { frame_size, hop_size },
-            3 => Self::SettingNotFinite,
+            3 => Self::SettingNotFinite { name: not_finite(settings) },
             4 => Self::TrackTooLong { samples, rate },
             5 => Self::LocalHopTooShort { seconds },
             6 => Self::SheetOfAnotherCall,
@@ -78,10 +116,10 @@ impl Refusal {
     /// The library's number; 0 for settings that it takes and with which it analyses nothing.
     pub fn number(&self) -> u32 {
         match *self {
-            Self::NothingAnalysed => 0,
+            Self::NothingAnalysed { .. } => 0,
             Self::RateTooHigh { .. } => 1,
             Self::FrameOrHopTooLarge { .. } => 2,
-            Self::SettingNotFinite => 3,
+            Self::SettingNotFinite { .. } => 3,
             Self::TrackTooLong { .. } => 4,
             Self::LocalHopTooShort { .. } => 5,
             Self::SheetOfAnotherCall => 6,
@@ -95,15 +133,13 @@ impl Refusal {
 
     fn words(&self) -> String {
         match self {
-            Self::NothingAnalysed => "with these settings no track is analysed: the rate or the hop is 0, a frame \
-                has fewer than 32 samples, the lowest note is above the highest, or the local window or hop is not \
-                above 0"
-                .into(),
+            Self::NothingAnalysed { why } => format!("no track can be analysed: {why}"),
             Self::RateTooHigh { rate } => format!("the rate of {rate} Hz is above 192000"),
-            Self::FrameOrHopTooLarge { frame_size, hop_size } => {
-                format!("a frame of {frame_size} is above 65536, or a hop of {hop_size} above 1048576")
+            Self::FrameOrHopTooLarge { frame_size: 65_537.., .. } => {
+                "a frame has more than 65536 samples".into()
             }
-            Self::SettingNotFinite => "one of the float settings is not finite".into(),
+            Self::FrameOrHopTooLarge { .. } => "the hop is above 1048576 samples".into(),
+            Self::SettingNotFinite { name } => format!("the {name} is not finite"),
             Self::TrackTooLong { samples, rate } => {
                 format!("{samples} samples at {rate} Hz are more than four hours")
             }
@@ -112,7 +148,7 @@ impl Refusal {
             Self::SheetNotWellFormed => "the table sheet is not well formed".into(),
             Self::TooLittleRoom => "fewer rows were lent than the track needs".into(),
             Self::FrameNotFinite { position } => {
-                format!("the frame at position {position} has samples that are not finite or too loud")
+                format!("the frame at position {position} is loud, and its energy or chroma is not finite")
             }
             Self::WindowStandsStill => "the start of a window did not grow by the hop".into(),
             Self::Unknown { .. } => "the track was refused for a reason unknown here".into(),

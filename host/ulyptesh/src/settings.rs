@@ -5,10 +5,11 @@ use crate::refusal::Refusal;
 /// No larger frame is taken.
 const LARGEST_FRAME: usize = 65_536;
 
-/// What the library answers about a sheet without tables.
+/// What the library answers about a sheet without tables, and about a frame that is longer than the longest track.
 const NOT_WELL_FORMED: u32 = 7;
+const TOO_LONG: u32 = 4;
 
-/// What a call is asked: the track's rate, and the rest as the Rust's `KeyConfig` has it.
+/// What a call is asked: the track's rate, and how it is listened to.
 ///
 /// ```
 /// use ulyptesh::Settings;
@@ -43,7 +44,8 @@ pub struct Settings {
 }
 
 impl Settings {
-    /// The Rust's own settings, for a track of this rate.
+    /// The usual settings for tracks of this rate: frames of 4,096 samples every 2,048, notes 36 to 95, windows of
+    /// 12 s every 6 s, an alternate from 0.25 of the track on, segments from a confidence of 0.35 and 12 s on.
     pub fn for_rate(rate: u32) -> Self {
         Self {
             rate,
@@ -78,6 +80,7 @@ impl Settings {
         let told = analyse(*self, &Sheet::empty(self), &silence, &mut Buffers::default());
         match told.refusal {
             NOT_WELL_FORMED => Ok(()),
+            TOO_LONG => Err(Refusal::new(0, 0, self, silence.len())),
             number => Err(Refusal::new(number, 0, self, silence.len())),
         }
     }

@@ -33,6 +33,9 @@ fn window_length(rate: u32, frequency: f32) -> usize {
 
 impl Sheet {
     /// The sheet for calls with these settings.
+    ///
+    /// # Panics
+    /// Where so much memory can't be had.
     pub fn for_call(settings: &Settings) -> Self {
         let Settings { rate, minimum_midi_note, maximum_midi_note, frame_size, .. } = *settings;
         let notes = (minimum_midi_note..=maximum_midi_note).map(frequency);

@@ -4,9 +4,16 @@ pub extern crate key_lime;
 pub mod borderline;
 pub mod tables;
 
-use self::key_lime::{ChromaFrame, KeyConfig};
+use self::key_lime::expose::key_number;
+use self::key_lime::{ChromaFrame, KeyConfig, MusicalKey};
 use crate::probe::segments::Track;
 use ulyptesh::Settings;
+use ulyptesh::calls::NO_KEY;
+
+/// A key's number; 24 where it is missing.
+pub fn number(key: Option<MusicalKey>) -> u32 {
+    key.map_or(NO_KEY, |key| key_number(key).into())
+}
 
 /// A track's frames.
 pub fn frames(track: &Track) -> Vec<ChromaFrame> {

@@ -78,7 +78,8 @@ unsafe extern "C" {
     ) -> *mut AnalyseResult;
 }
 
-/// Analyses a track: loud frames, estimates and segments stand at the front of their rows, the rows behind them stay.
+/// Analyses a track: loud frames, estimates and segments stand at the front of their rows. Segment rows that joining
+/// has emptied hold zeros, as do the work numbers that were used; all other rows stay.
 pub fn analyse(settings: Settings, sheet: &Sheet, samples: &[f32], lent: &mut Buffers) -> AnalyseResult {
     let Buffers { frames, work, estimates, segments } = lent;
     // SAFETY: each pointer and its count are one slice, which outlives the call; what is lent is exclusive, and

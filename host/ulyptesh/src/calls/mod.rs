@@ -1,8 +1,8 @@
 //! The library's calls one by one, over memory that the caller lends.
 //!
 //! A slice crosses the C interface as two arguments, pointer and count. Each call here lends Rust slices for its own
-//! length; the library keeps no pointer, allocates nothing and has no state. The structs are those of
-//! `include/ulyptesh.h`, so they change with [`ABI`].
+//! length; the library keeps no pointer, allocates nothing and has no state. What crosses is as `include/ulyptesh.h`
+//! has it, so the structs of settings, heads and answers change with [`ABI`].
 mod analysis;
 mod by_pointer;
 mod cards;

@@ -44,7 +44,7 @@ const MOST_WINDOWS: usize = 2 * LONGEST_TRACK_SECONDS + 1;
 pub fn frame_positions(settings: &Settings, samples: usize) -> usize {
     let Settings { frame_size, hop_size, .. } = *settings;
     let behind_first = samples.checked_sub(frame_size);
-    behind_first.and_then(|samples| samples.checked_div(hop_size)).map_or(0, |hops| hops + 1)
+    behind_first.and_then(|samples| samples.checked_div(hop_size)).map_or(0, |hops| hops.saturating_add(1))
 }
 
 /// How many estimates and segments are asked for: one for each local window, or one where the track is shorter than
@@ -79,6 +79,9 @@ fn grow<A: Clone + Default>(list: &mut Vec<A>, length: usize) {
 
 impl Buffers {
     /// Zeros, as many as a track of so many samples needs.
+    ///
+    /// # Panics
+    /// Where so much memory can't be had.
     pub fn for_track(settings: &Settings, samples: usize) -> Self {
         let mut lent = Self::default();
         lent.grow_for(settings, samples);

@@ -15,7 +15,8 @@ pub struct SheetHead {
     pub frame_size: usize,
 }
 
-/// A table sheet. Row k of either kind is for the lowest note plus k.
+/// A table sheet: the tables for one rate, note range and frame size. Row k of either kind is for the lowest note
+/// plus k.
 #[derive(Debug, Clone, PartialEq)]
 pub struct Sheet {
     /// What it was made for.

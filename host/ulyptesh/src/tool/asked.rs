@@ -1,11 +1,11 @@
 //! What `analyse` is asked: files, settings, the form of the answer, and what else is written.
 use super::failure::{Failure, bad_usage, refused_about, shown};
+use super::outputs::place_of;
 use super::samples::STANDARD_INPUT;
 use super::settings;
 use super::words::{Known, Words, alone, with_word};
 use std::collections::HashMap;
 use std::ffi::{OsStr, OsString};
-use std::fs::canonicalize;
 use std::num::NonZeroUsize;
 use std::path::{Path, PathBuf};
 use ulyptesh::{NoSuchNotation, Notation, Settings};
@@ -24,7 +24,7 @@ pub const OPTIONS: [Known; 9] = [
 ];
 
 /// The word for standard output.
-const STANDARD_OUTPUT: &str = "-";
+pub const STANDARD_OUTPUT: &str = "-";
 
 /// What is printed about a track.
 #[derive(Clone, Copy, PartialEq)]
@@ -46,10 +46,24 @@ enum Target {
     Folder(PathBuf),
 }
 
+/// A track's name without its extension, which is letters and digits behind the last dot.
+fn bare_name(track: &Path) -> Option<&OsStr> {
+    let is_extension = |word: &OsStr| word.as_encoded_bytes().iter().all(u8::is_ascii_alphanumeric);
+    if track.extension().is_some_and(is_extension) { track.file_stem() } else { track.file_name() }
+}
+
+/// Whether no file can have this name.
+fn is_no_file(word: &OsStr) -> bool {
+    word.is_empty() || word.as_encoded_bytes().ends_with(b"/")
+}
+
 impl Target {
     fn read(words: &Words, file: &str, folder: &str) -> Result<Self, Failure> {
         match (words.word(file), words.word(folder)) {
             (None, None) => Ok(Self::Nowhere),
+            (Some(word), _) if is_no_file(word) => {
+                Err(bad_usage(format!("{file}: '{}' is not the name of a file", shown(word))))
+            }
             (Some(_), Some(_)) => Err(bad_usage(format!("{file} and {folder} do not go together"))),
             (Some(word), None) if word == STANDARD_OUTPUT => Ok(Self::Printed),
             (Some(word), None) => Ok(Self::File(word.into())),
@@ -64,7 +78,7 @@ impl Target {
             Self::Nowhere | Self::Printed => None,
             Self::File(place) => Some(place.clone()),
             Self::Folder(folder) => {
-                let mut name = Path::new(track).file_stem()?.to_os_string();
+                let mut name = bare_name(Path::new(track))?.to_os_string();
                 name.push(format!(".{extension}"));
                 Some(folder.join(name))
             }
@@ -107,14 +121,7 @@ fn form(words: &Words, card: &Target, svg: &Target) -> Result<Form, Failure> {
 
 /// The notation that is asked for.
 pub fn notation(words: &Words) -> Result<Option<Notation>, Failure> {
-    words.value("--notation", &format!("a notation: {NoSuchNotation}"))
-}
-
-/// A name that is the same for all names of one file, whether it is there or not.
-fn identity(name: &Path) -> PathBuf {
-    let beside = || Some(canonicalize(name.parent()?).ok()?.join(name.file_name()?));
-    let here = || Some(canonicalize(".").ok()?.join(name));
-    canonicalize(name).ok().or_else(beside).or_else(here).unwrap_or(name.into())
+    words.value("--notation", &format!("a notation; {NoSuchNotation}"))
 }
 
 impl Asked {
@@ -170,7 +177,7 @@ impl Asked {
         for track in &self.files {
             for (what, place) in [("card", self.card_place(track)), ("picture", self.svg_place(track))] {
                 let Some(place) = place else { continue };
-                if let Some((other, its_track)) = taken.insert(identity(&place), (what, track)) {
+                if let Some((other, its_track)) = taken.insert(place_of(&place), (what, track)) {
                     let (track, its_track, place) =
                         (shown(track), shown(its_track), shown(place.as_os_str()));
                     let both = format!("the {other} of {its_track} and the {what} of {track}");
@@ -178,7 +185,7 @@ impl Asked {
                 }
             }
         }
-        let read_too = self.files.iter().find(|track| taken.contains_key(&identity(Path::new(track))));
+        let read_too = self.files.iter().find(|track| taken.contains_key(&place_of(Path::new(track))));
         match read_too {
             Some(track) => Err(bad_usage(format!("{} is read, so it is not written", shown(track)))),
             None => Ok(()),

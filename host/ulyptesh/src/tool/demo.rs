@@ -1,10 +1,11 @@
 //! The names of all keys, the key of a triad, and a built-in track that changes its key.
+use super::asked::STANDARD_OUTPUT;
 use super::failure::{Failure, bad_usage, refused};
 use super::outputs::Prepared;
 use super::picture::{Picture, svg};
 use super::text;
 use super::words::{Known, Words, with_word};
-use super::{key_of, say};
+use super::{key_of, print, say};
 use std::f64::consts::TAU;
 use std::path::Path;
 use ulyptesh::{Analysis, Analyzer, Chroma, Key};
@@ -60,6 +61,11 @@ fn lines(told: &Analysis, words: &Words) -> Result<Vec<String>, Failure> {
     Ok(lines)
 }
 
+/// The samples as a file has them.
+fn bytes(samples: &[f32]) -> Vec<u8> {
+    samples.iter().flat_map(|x| x.to_le_bytes()).collect()
+}
+
 pub fn run(words: Words) -> Result<(), Failure> {
     if !words.plain.is_empty() {
         return Err(bad_usage("demo takes no file"));
@@ -67,14 +73,21 @@ pub fn run(words: Words) -> Result<(), Failure> {
     let samples: Vec<f32> = (0..SECONDS * RATE as usize).map(sample).collect();
     let mut analyzer = Analyzer::for_rate(RATE).map_err(refused)?;
     let told = analyzer.analyse(&samples).map_err(refused)?;
-    let mut prepared = Prepared::default();
-    if let Some(place) = words.word("--svg") {
-        prepared.add(Path::new(place), svg(&Picture::new(NAME, &told, &analyzer)).as_bytes())?;
+    let picture = || svg(&Picture::new(NAME, &told, &analyzer)).into_bytes();
+    let (mut prepared, mut printed) = (Prepared::default(), None);
+    for (option, content) in [("--svg", &picture as &dyn Fn() -> Vec<u8>), ("--track", &|| bytes(&samples))] {
+        match words.word(option) {
+            None => {}
+            Some(word) if word == STANDARD_OUTPUT && printed.is_some() => {
+                return Err(bad_usage("one file can go to standard output"));
+            }
+            Some(word) if word == STANDARD_OUTPUT => printed = Some(content()),
+            Some(word) => prepared.add(Path::new(word), &content())?,
+        }
     }
-    if let Some(place) = words.word("--track") {
-        let bytes: Vec<u8> = samples.iter().flat_map(|x| x.to_le_bytes()).collect();
-        prepared.add(Path::new(place), &bytes)?;
+    match printed {
+        Some(content) => print(&content)?,
+        None => say(&lines(&told, &words)?.join("\n"))?,
     }
-    say(&lines(&told, &words)?.join("\n"))?;
     prepared.put()
 }

@@ -26,8 +26,7 @@ impl Desk {
     }
 
     pub fn analyse(&mut self, file: &OsStr) -> Result<Analysis, Failure> {
-        let rate = self.analyzer.settings().rate;
-        samples::read(file, rate, &mut self.samples)?;
+        samples::read(file, self.analyzer.settings(), &mut self.samples)?;
         self.analyzer.analyse(&self.samples).map_err(|why| refused_about(file, why))
     }
 

@@ -28,8 +28,16 @@ pub fn tell(message: &str) {
     drop(writeln!(stderr(), "ulyptesh: {message}"));
 }
 
-/// A name as it is safe to show: no control character reaches the terminal.
+/// A name as it is safe to show: no control character reaches the terminal, an empty name is seen, and no two names
+/// look alike for it.
 pub fn shown(name: &OsStr) -> String {
-    let escaped = |c: char| if c.is_control() { c.escape_default().to_string() } else { c.to_string() };
+    if name.is_empty() {
+        return "''".into();
+    }
+    let escaped = |c: char| match c {
+        '\\' => "\\\\".into(),
+        c if c.is_control() => c.escape_default().to_string(),
+        c => c.to_string(),
+    };
     name.to_string_lossy().chars().map(escaped).collect()
 }

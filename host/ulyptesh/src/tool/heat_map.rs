@@ -2,7 +2,7 @@
 use super::picture::{LEFT, WIDTH};
 use std::fmt::Write;
 use std::ops::RangeInclusive;
-use ulyptesh::LoudFrame;
+use ulyptesh::{LoudFrame, Tonic};
 
 /// Most columns of the map.
 const MOST: usize = 182;
@@ -16,7 +16,6 @@ const DARKEST: [f64; 3] = [8.0, 48.0, 107.0];
 const TOP: usize = 166;
 const ROW: usize = 17;
 pub const BOTTOM: usize = TOP + 12 * ROW;
-const NAMES: [&str; 12] = ["C", "C#", "D", "D#", "E", "F", "F#", "G", "G#", "A", "A#", "B"];
 
 /// The legend's line, a box of it, and the room behind it.
 const LEGEND: usize = 410;
@@ -86,7 +85,7 @@ fn cells(columns: &[Column], largest: f64) -> Vec<String> {
 
 fn row_name(class: usize) -> String {
     let (x, y) = (LEFT - 8, TOP + (11 - class) * ROW + 13);
-    format!("<text x=\"{x}\" y=\"{y}\" text-anchor=\"end\">{}</text>\n", NAMES[class])
+    format!("<text x=\"{x}\" y=\"{y}\" text-anchor=\"end\">{}</text>\n", Tonic::ALL[class])
 }
 
 /// What the shades mean: from 0 to the strongest value.

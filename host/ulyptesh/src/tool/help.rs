@@ -18,12 +18,13 @@ pub const ANALYSE: &str = "\
 ulyptesh analyse FILE.. --rate N [OPTION..]
   The key, confidence, alternate key and key segments of each track, each as it is done.
   FILE            raw mono samples, 32-bit little-endian floats; - is standard input. For any other file:
-                  ffmpeg -v error -i FILE -f f32le -ac 1 -ar N - | ulyptesh analyse - --rate N
+                  ffmpeg -nostdin -v error -i FILE -f f32le -ac 1 -ar N - | ulyptesh analyse - --rate N
   --rate N        samples in a second, up to 192000
 
   Of several segments the key is the longest one's. Where there is one segment, the key is that of the
-  whole track's chroma, and its segment may tell another: that one is then the alternate, with all of
-  the track. The confidence is the whole chroma's, so it is low where a track changes its key.
+  whole track's chroma, and its segment may tell another: unless --coverage forbids it, that one is then
+  the alternate, with all of the track. The confidence is the whole chroma's, so it is low where a track
+  changes its key.
 
   --json          an array with an object for each track
   --json-lines    an object a line for each track
@@ -31,7 +32,7 @@ ulyptesh analyse FILE.. --rate N [OPTION..]
   --notation WORD keys as sharps (C# minor), flats (Db minor), camelot (12A) or open-key (5m)
   --card OUT      also writes the key card, for one file; - is standard output, in place of the text
   --svg OUT       also draws the segments and the chroma over time, likewise
-  --cards DIR     also writes the key card of each track into a folder, as NAME.card
+  --cards DIR     also writes the key card of each track into a folder that is there, as NAME.card
   --svgs DIR      also draws each track into a folder, as NAME.svg
   --jobs N        so many tracks at a time; answers come as they are done
 ";
@@ -67,8 +68,8 @@ ulyptesh key-name NUMBER [--notation WORD]
 pub const DEMO: &str = "\
 ulyptesh demo [--svg OUT] [--track OUT]
   The 24 keys, the key of a triad, and a built-in track of 80 s at 44100 Hz with its card.
-  --svg OUT       also draws the track
-  --track OUT     also writes its samples, for ulyptesh analyse OUT --rate 44100
+  --svg OUT       also draws the track; - is standard output, in place of the text
+  --track OUT     also writes its samples, likewise, for ulyptesh analyse OUT --rate 44100
 ";
 
 pub const ENDING: &str = "\
@@ -76,5 +77,5 @@ An option's word may stand behind an equals sign, as --rate=44100; words behind 
 OUT is replaced where it is there, and written only where all went well: first the answer is out, then
 the files are put into their places. A track that fails does not keep others from being analysed.
 The tool neither reads nor sets the floating-point environment.
-Exit status: 0, or 1 where a track was refused or not read, or 2 for bad usage.
+Exit status: 0, or 1 where something was refused, not read or not written, or 2 for bad usage.
 ";

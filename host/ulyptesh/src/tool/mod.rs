@@ -110,6 +110,7 @@ fn run(given: &[OsString]) -> Result<(), Failure> {
         (Some("--version" | "-V"), []) => say(&format!("{}, interface {}", help::VERSION, abi())),
         (Some("--help" | "-h" | "help"), []) => print(whole_help().as_bytes()),
         (Some("help"), [name]) => print(command(name)?.help.join("\n").as_bytes()),
+        (Some("help"), _) => Err(bad_usage("help takes one command")),
         _ => {
             let command = command(first)?;
             if words.iter().take_while(|word| *word != "--").any(is_help) {
@@ -127,6 +128,19 @@ pub fn main() -> ExitCode {
         Err(failure) => {
             tell(&failure.message);
             ExitCode::from(failure.status)
+        }
+    }
+}
+
+#[cfg(test)]
+mod tests {
+    use super::*;
+
+    #[test]
+    fn every_option_is_told() {
+        let help = whole_help();
+        for option in COMMANDS.iter().flat_map(|command| command.options.concat()) {
+            assert!(help.contains(&format!("  {} ", option.name)), "{}", option.name);
         }
     }
 }

@@ -6,6 +6,9 @@ use std::io::{IsTerminal, Write, stderr};
 /// To the front of the line, and all behind it cleared.
 const CLEARED: &str = "\r\x1b[K";
 
+/// So much of a name fits on the line, its end.
+const LONGEST: usize = 50;
+
 pub struct Progress {
     is_shown: bool,
     files: usize,
@@ -20,7 +23,9 @@ impl Progress {
     /// So many files are done, and this one is begun.
     pub fn show(&self, done: usize, file: &OsStr) {
         if self.is_shown {
-            drop(write!(stderr(), "{CLEARED}{done} of {} done: {}", self.files, shown(file)));
+            let name: Vec<char> = shown(file).chars().collect();
+            let end: String = name[name.len().saturating_sub(LONGEST)..].iter().collect();
+            drop(write!(stderr(), "{CLEARED}{done} of {} done: {end}", self.files));
         }
     }
 

@@ -5,46 +5,60 @@ use std::ffi::OsStr;
 use std::fs::File;
 use std::io::{self, ErrorKind, Read};
 use ulyptesh::calls::LONGEST_TRACK_SECONDS;
+use ulyptesh::{Refusal, Settings};
 
 const BYTES: usize = size_of::<f32>();
 
 /// So many bytes are read at once.
 const BLOCK: usize = 1 << 16;
 
+/// The library's number for a track that is too long.
+const TOO_LONG: u32 = 4;
+
 /// The word for standard input.
 pub const STANDARD_INPUT: &str = "-";
 
 /// Puts the samples of a file in place of what is there. Reading stops where the track is too long in any case.
-pub fn read(file: &OsStr, rate: u32, samples: &mut Vec<f32>) -> Result<(), Failure> {
+pub fn read(file: &OsStr, settings: &Settings, samples: &mut Vec<f32>) -> Result<(), Failure> {
     samples.clear();
-    let most = LONGEST_TRACK_SECONDS * rate as usize;
     if file == STANDARD_INPUT {
-        return take(file, io::stdin().lock(), rate, most, samples);
+        return take(file, io::stdin().lock(), settings, samples);
     }
-    let opened = File::open(file).map_err(|why| refused_about(file, why))?;
+    let failed = |why| refused_about(file, why);
+    let opened = File::open(file).map_err(failed)?;
     let length = opened.metadata().map_or(0, |about| about.len() as usize / BYTES);
-    samples.reserve_exact(length.min(most + BLOCK));
-    take(file, opened, rate, most, samples)
+    if length > longest(settings) {
+        return Err(refused_about(file, Refusal::new(TOO_LONG, 0, settings, length)));
+    }
+    samples.try_reserve_exact(length).map_err(|why| refused_about(file, why))?;
+    take(file, opened, settings, samples)
+}
+
+/// How many samples the longest track has.
+fn longest(settings: &Settings) -> usize {
+    LONGEST_TRACK_SECONDS * settings.rate as usize
 }
 
 fn take(
     file: &OsStr,
     mut from: impl Read,
-    rate: u32,
-    most: usize,
+    settings: &Settings,
     samples: &mut Vec<f32>,
 ) -> Result<(), Failure> {
     let mut first = vec![];
     let failed = |why| refused_about(file, why);
     from.by_ref().take(TELLING).read_to_end(&mut first).map_err(failed)?;
+    if first.is_empty() {
+        return Err(refused_about(file, "there are no samples"));
+    }
     if let Some(kind) = containers::kind(&first) {
-        let decoding = containers::decoding(file, rate);
+        let decoding = containers::decoding(file, settings.rate);
         return Err(refused_about(
             file,
             format!("{kind}, and no raw samples; decode it first:\n  {decoding}"),
         ));
     }
-    match gather(first.as_slice().chain(from), most, samples).map_err(failed)? {
+    match gather(first.as_slice().chain(from), longest(settings), samples).map_err(failed)? {
         0 => Ok(()),
         _ => {
             let why = format!("the length is no multiple of {BYTES} bytes, so these are no samples");

@@ -30,6 +30,18 @@ impl FromStr for Notes {
     }
 }
 
+/// A number from 0 to 1.
+struct Part(f32);
+
+impl FromStr for Part {
+    type Err = ();
+
+    fn from_str(word: &str) -> Result<Self, ()> {
+        let part = word.parse().map_err(drop)?;
+        if (0.0..=1.0).contains(&part) { Ok(Self(part)) } else { Err(()) }
+    }
+}
+
 /// Puts an option's value into its place, where it is given.
 fn set<A: FromStr>(words: &Words, name: &str, what: &str, place: &mut A) -> Result<(), Failure> {
     if let Some(value) = words.value(name, what)? {
@@ -40,20 +52,23 @@ fn set<A: FromStr>(words: &Words, name: &str, what: &str, place: &mut A) -> Resu
 
 /// The settings that the words ask for; such as analyse nothing are refused.
 pub fn read(words: &Words) -> Result<Settings, Failure> {
-    let rate: Option<NonZeroU32> = words.value("--rate", "a rate: a whole number above 0")?;
+    let rate: Option<NonZeroU32> = words.value("--rate", "a rate: a whole number from 1 to 192000")?;
     let rate = rate.ok_or_else(|| bad_usage("--rate is missing: raw samples do not tell their rate"))?;
     let mut asked = Settings::for_rate(rate.get());
     let mut notes = Notes(asked.minimum_midi_note, asked.maximum_midi_note);
+    let (mut coverage, mut confidence) =
+        (Part(asked.alternate_coverage_threshold), Part(asked.segment_confidence_threshold));
     let (seconds, part, samples) = ("a number of seconds", "a part from 0 to 1", "a number of samples");
     set(words, "--window", seconds, &mut asked.local_window_seconds)?;
     set(words, "--local-hop", seconds, &mut asked.local_hop_seconds)?;
-    set(words, "--segment-confidence", part, &mut asked.segment_confidence_threshold)?;
+    set(words, "--segment-confidence", part, &mut confidence)?;
     set(words, "--minimum-segment", seconds, &mut asked.minimum_segment_seconds)?;
-    set(words, "--coverage", part, &mut asked.alternate_coverage_threshold)?;
+    set(words, "--coverage", part, &mut coverage)?;
     set(words, "--notes", "two MIDI notes such as 36-95", &mut notes)?;
     set(words, "--frame-size", samples, &mut asked.frame_size)?;
     set(words, "--hop-size", samples, &mut asked.hop_size)?;
     (asked.minimum_midi_note, asked.maximum_midi_note) = (notes.0, notes.1);
+    (asked.alternate_coverage_threshold, asked.segment_confidence_threshold) = (coverage.0, confidence.0);
     asked.check().map_err(refused)?;
     Ok(asked)
 }

@@ -139,7 +139,10 @@ fn compare_checks(groups: &mut Groups) {
     let mut dice = Dice::new(groups.seed, STREAM + TURNS as u64);
     let checked = (0..CHECKED).map(|_| about_limits(&mut dice));
     let ours = |settings: Settings| settings.check().err().map(|why| why.number());
-    groups.group("settings checked", checked, ours, |settings| refusal_of(&settings, settings.frame_size));
+    groups.group("settings checked", checked, ours, |settings| {
+        // a frame that is longer than the longest track is in none
+        refusal_of(&settings, settings.frame_size).map(|number| if number == 4 { 0 } else { number })
+    });
 }
 
 pub fn compare(groups: &mut Groups) {

@@ -6,14 +6,11 @@ use crate::frames::{Heard, heard, put_frames};
 use crate::segment_lists::put_joined;
 use crate::segments::{their_estimates, their_groups};
 use bench::oracle::config;
-use bench::oracle::key_lime::expose::{analysis_of_frames, key_number};
-use bench::oracle::key_lime::{KeyAnalysis, MusicalKey};
+use bench::oracle::key_lime::KeyAnalysis;
+use bench::oracle::key_lime::expose::analysis_of_frames;
+use bench::oracle::number;
 use bench::probe::segments::Track;
-use ulyptesh::calls::{AnalyseResult, Buffers, NO_KEY};
-
-fn number(key: Option<MusicalKey>) -> u32 {
-    key.map_or(NO_KEY, |key| key_number(key).into())
-}
+use ulyptesh::calls::{AnalyseResult, Buffers};
 
 fn with_key(told: &KeyAnalysis, frames: usize, estimates: usize) -> AnalyseResult {
     AnalyseResult {

@@ -99,8 +99,9 @@ fn help(folder: &Folder) -> [bool; 4] {
 /// Samples, or a file of another kind, by standard input.
 fn by_input(folder: &Folder) -> [bool; 2] {
     let words = ["analyse", "-", "--rate", "8000", "--key-only"];
-    let (tone, other) =
-        (folder.run_on(&tone(), &words), folder.run_on(&[f32::from_bits(0x4646_4952); 9], &words));
+    // RIFF, a length, WAVE
+    let other = [0x4646_4952, 36, 0x4556_4157].map(f32::from_bits);
+    let (tone, other) = (folder.run_on(&tone(), &words), folder.run_on(&other, &words));
     [text(&tone.stdout) == "A minor\n", other.stdout.is_empty() && text(&other.stderr).contains("a WAV file")]
 }
 

@@ -2,7 +2,6 @@
 use crate::groups::{Groups, compared_as_shown};
 use crate::json::Json;
 use crate::tool_runs::{Folder, text};
-use std::f64::consts::TAU;
 use std::fs;
 use std::path::Path;
 
@@ -63,61 +62,45 @@ const WITHOUT_KEY: &[&str] = &[
 ];
 
 const RUNS: [Run; 6] = [
-    Run { words: "analyse two --rate 8000 --segment-confidence 0.2 --json", objects: 1, nulls: &[] },
-    Run { words: "analyse one --rate 8000 --json", objects: 1, nulls: WITHOUT_ALTERNATE },
-    Run { words: "analyse silent --rate 8000 --json-lines", objects: 1, nulls: WITHOUT_KEY },
+    Run { words: "analyse two --rate 44100 --json", objects: 1, nulls: &[] },
+    Run { words: "analyse one --rate 44100 --json", objects: 1, nulls: WITHOUT_ALTERNATE },
+    Run { words: "analyse silent --rate 44100 --json-lines", objects: 1, nulls: WITHOUT_KEY },
+    Run { words: "analyse two two --rate 44100 --json-lines", objects: 2, nulls: &[] },
+    Run { words: "analyse missing silent silent --rate 44100 --json", objects: 2, nulls: WITHOUT_KEY },
     Run {
-        words: "analyse two two --rate 8000 --segment-confidence 0.2 --json-lines",
-        objects: 2,
-        nulls: &[],
-    },
-    Run { words: "analyse missing silent silent --rate 8000 --json", objects: 2, nulls: WITHOUT_KEY },
-    Run {
-        words: "analyse one one missing --rate 8000 --json --jobs 2",
+        words: "analyse one one missing --rate 44100 --json --jobs 2",
         objects: 2,
         nulls: WITHOUT_ALTERNATE,
     },
 ];
 
-/// The tones of a key, all at once: the lowest note and its mode's tones with their loudness.
-fn tones(lowest: u32, tones: &[(u32, f64)], place: usize) -> f32 {
-    let tone = |&(semitones, loudness): &(u32, f64)| {
-        let hertz = 440.0 * ((f64::from(lowest + semitones) - 69.0) / 12.0).exp2();
-        loudness * (TAU * hertz * place as f64 / 8_000.0).sin()
-    };
-    0.15 * tones.iter().map(tone).sum::<f64>() as f32
-}
-
-const MAJOR: &[(u32, f64)] = &[(0, 1.0), (2, 0.3), (4, 0.6), (7, 0.35), (5, 0.1)];
-const MINOR: &[(u32, f64)] = &[(0, 1.0), (2, 0.3), (3, 0.6), (7, 0.5), (8, 0.35), (11, 0.2)];
-
-/// A track in two keys, one in one, and silence.
+/// The demo's track in two keys, its front in one, and silence.
 fn filled() -> Folder {
     let folder = Folder::new("tool-json");
-    let in_c = |length: usize| (0..length).map(|place| tones(60, MAJOR, place));
-    let two: Vec<f32> =
-        in_c(360_000).chain((360_000..560_000).map(|place| tones(66, MINOR, place))).collect();
-    folder.put_samples("two", &two);
-    folder.put_samples("one", &in_c(240_000).collect::<Vec<f32>>());
+    assert!(folder.run(&["demo", "--track", "two"]).status.success(), "the demo's track");
+    let two = folder.read("two").expect("the demo's track");
+    folder.put("one", &two[..two.len() / 4]);
     folder.put_samples("silent", &[0.0; 16_000]);
     folder
 }
 
-/// The objects that a run prints.
+/// The objects that a run prints, and nothing else; none where something else is printed.
 fn objects(printed: &str, words: &str) -> Vec<Json> {
-    if words.contains("--json-lines") {
-        return printed.lines().filter_map(Json::read).collect();
-    }
-    Json::read(printed).and_then(|array| array.list().map(<[Json]>::to_vec)).unwrap_or_default()
+    let read: Option<Vec<Json>> = if words.contains("--json-lines") {
+        printed.lines().map(Json::read).collect()
+    } else {
+        Json::read(printed).and_then(|array| array.list().map(<[Json]>::to_vec))
+    };
+    read.unwrap_or_default()
 }
 
-/// How many objects follow the page, and how many have just these nulls.
-fn seen(folder: &Folder, page: &str, run: Run) -> (usize, usize) {
+/// How many objects there are, how many follow the page, and how many have just these nulls.
+fn seen(folder: &Folder, page: &str, run: Run) -> [usize; 3] {
     let ended = folder.run(&run.words.split_whitespace().collect::<Vec<_>>());
     let objects = objects(&text(&ended.stdout), run.words);
     let nulls = |told: &&Json| told.nulls().is_some_and(|names| names == run.nulls);
     let follow = objects.iter().filter(|told| follows(told, "A track", page)).count();
-    (follow, objects.iter().filter(nulls).count())
+    [objects.len(), follow, objects.iter().filter(nulls).count()]
 }
 
 /// The page's own example follows it too.
@@ -131,7 +114,7 @@ fn example(page: &str) -> bool {
 
 pub fn compare(groups: &mut Groups) {
     let (folder, page) = (filled(), page());
-    let (ours, wanted) = (|run: Run| seen(&folder, &page, run), |run: Run| (run.objects, run.objects));
+    let (ours, wanted) = (|run: Run| seen(&folder, &page, run), |run: Run| [run.objects; 3]);
     groups.group("the tool's JSON beside its page", RUNS.into_iter(), ours, wanted);
     groups.group("the example of the page on JSON", [0u32].into_iter(), |_| example(&page), |_| true);
 }

@@ -6,7 +6,7 @@ use bench::inputs::dice::Dice;
 use bench::inputs::tracks::{KINDS, Maker};
 
 /// Streams of the seed from here on.
-const STREAM: u64 = 97_000;
+const STREAM: u64 = 101_000;
 
 /// A run of the tool on all files with so many jobs, in one form.
 #[derive(Debug, Clone, Copy)]

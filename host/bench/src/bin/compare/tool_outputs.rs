@@ -144,6 +144,31 @@ fn printed_alone(option: &str) -> (Vec<u8>, Vec<u8>) {
     (printed.stdout, folder.read("new").unwrap_or_default())
 }
 
+/// A card by way of `/dev/stdout` onto a pipe, where the text follows it, and onto a file, which is refused.
+fn by_device() -> [bool; 3] {
+    let (folder, words) = (filled(), ["analyse", "good", "--rate", "8000", "--card", "/dev/stdout"]);
+    let (text_alone, card) = (folder.run(&words[..4]).stdout, printed_alone("--card").0);
+    let onto_file = folder.command(&words).stdout(folder.create("new")).stderr(Stdio::null()).status();
+    [
+        folder.run(&words).stdout == [card, text_alone].concat(),
+        onto_file.is_ok_and(|status| status.code() == Some(1)),
+        folder.read("new").is_some_and(|bytes| bytes.is_empty()),
+    ]
+}
+
+/// A track on standard input is not replaced by its card.
+fn onto_input() -> [bool; 2] {
+    let folder = filled();
+    let (before, words) = (folder.read("good"), ["analyse", "-", "--rate", "8000", "--card", "good"]);
+    let ended = folder
+        .command(&words)
+        .stdin(folder.open("good"))
+        .stdout(Stdio::null())
+        .stderr(Stdio::null())
+        .status();
+    [ended.is_ok_and(|status| status.code() == Some(1)), folder.read("good") == before]
+}
+
 pub fn compare(groups: &mut Groups) {
     let nothing_left = |_| Ended { status: Some(1), changes_files: false };
     groups.group("the tool where outputs are full", FULL_RUNS.into_iter(), on_full, nothing_left);
@@ -152,4 +177,6 @@ pub fn compare(groups: &mut Groups) {
     let (ours, wanted) =
         (|nth: usize| printed_alone(options[nth]).0, |nth: usize| printed_alone(options[nth]).1);
     groups.group("the tool's files on standard output", 0..options.len(), ours, wanted);
+    groups.group("the tool's card by a device", [0u32].into_iter(), |_| by_device(), |_| [true; 3]);
+    groups.group("the tool's card onto its input", [0u32].into_iter(), |_| onto_input(), |_| [true; 2]);
 }

@@ -4,10 +4,10 @@ use crate::groups::{Groups, compared_as_shown};
 use crate::tool_runs::{Folder, text};
 use bench::inputs::dice::Dice;
 use bench::inputs::tracks::{KINDS, Maker};
-use ulyptesh::{Analysis, Analyzer};
+use ulyptesh::{Analysis, Analyzer, Tonic};
 
 /// Streams of the seed from here on.
-const STREAM: u64 = 98_000;
+const STREAM: u64 = 102_000;
 
 const RATE: u32 = 8_000;
 const TRACKS: usize = 60;
@@ -60,6 +60,22 @@ fn wanted(told: &Analysis) -> Picture {
     Picture { segments: segments.collect(), marked: [lone; 2], legend: true }
 }
 
+/// The colour of the strongest value.
+const DARKEST: &str = "#08306b";
+
+/// The name of the row that a tone of this pitch class is darkest in: rows are 17 high, and a name stands 13 below its
+/// row's upper edge.
+fn darkest_row(folder: &Folder, class: usize) -> Option<String> {
+    let hertz = 440.0 * ((class as f32 + 60.0 - 69.0) / 12.0).exp2();
+    let step = hertz / RATE as f32 * std::f32::consts::TAU;
+    folder.put_samples("tone", &(0..4 * RATE).map(|place| (place as f32 * step).sin()).collect::<Vec<f32>>());
+    let picture = text(&folder.run(&["analyse", "tone", "--rate", "8000", "--svg", "-"]).stdout);
+    let cells = between(&picture, &format!("<path fill=\"{DARKEST}\" d=\"M"), "\"").next()?.to_string();
+    let top: usize = cells.split([' ', 'H']).nth(1)?.parse().ok()?;
+    let before_name = format!("y=\"{}\" text-anchor=\"end\">", top + 13);
+    between(&picture, &before_name, "<").next().map(String::from)
+}
+
 pub fn compare(groups: &mut Groups) {
     let (seed, folder) = (groups.seed, Folder::new("tool-pictures"));
     let analysed = |nth| {
@@ -70,4 +86,6 @@ pub fn compare(groups: &mut Groups) {
     assert!((1..TRACKS).contains(&marked), "some pictures have the mark, and some have not");
     let ours = |nth| drawn(&folder, &samples(seed, nth));
     groups.group("the tool's pictures", 0..TRACKS, ours, |nth| wanted(&analysed(nth)));
+    let name = |class: usize| Some(Tonic::ALL[class].to_string());
+    groups.group("the rows of the tool's pictures", 0..12, |class| darkest_row(&folder, class), name);
 }

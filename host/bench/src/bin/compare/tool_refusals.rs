@@ -31,10 +31,11 @@ const fn refused(words: &'static str, says: &'static str) -> Case {
 }
 
 /// Commands and options.
-const WORDS: [Case; 29] = [
+const WORDS: [Case; 30] = [
     bad_usage("", "no command"),
     bad_usage("analyze good --rate 8000", "'analyze' is not a command"),
     bad_usage("help analyze", "'analyze' is not a command"),
+    bad_usage("help analyse key", "help takes one command"),
     bad_usage("--version good", "'--version' is not a command"),
     bad_usage("analyse --rate 8000", "no file"),
     bad_usage("analyse good", "--rate is missing"),
@@ -59,31 +60,57 @@ const WORDS: [Case; 29] = [
     bad_usage("key-name", "one number"),
     bad_usage("key-name 1 2", "one number"),
     bad_usage("key-name -1", "'-1' is not a whole number"),
-    refused("key-name 24", "refusal 11"),
+    refused("key-name 24", "24 is no key number"),
     bad_usage("demo good", "no file"),
 ];
 
-/// Settings.
-const SETTINGS: [Case; 13] = [
-    refused("analyse good --rate 192001 --card new", "refusal 1"),
-    refused("analyse good --rate 8000 --frame-size 65537", "refusal 2"),
-    refused("analyse good --rate 8000 --coverage NaN", "refusal 3"),
-    refused("analyse good --rate 1 --frame-size 14401", "refusal 4"),
-    refused("analyse good --rate 8000 --local-hop 0.4999", "refusal 5"),
-    refused("analyse good --rate 8000 --hop-size 0", "no track is analysed"),
-    refused("analyse good --rate 8000 --frame-size 31", "no track is analysed"),
-    refused("analyse good --rate 8000 --notes 95-36", "no track is analysed"),
-    refused("key-at good 1 --rate 8000 --window 0", "no track is analysed"),
+/// Settings: each option with a word that it does not take, and what the library does not take.
+const SETTINGS: [Case; 24] = [
+    bad_usage("analyse good --rate 8000 --window wide", "'wide' is not a number of seconds"),
+    bad_usage("analyse good --rate 8000 --local-hop high", "'high' is not a number of seconds"),
+    bad_usage("analyse good --rate 8000 --segment-confidence 1.5", "'1.5' is not a part"),
+    bad_usage("analyse good --rate 8000 --minimum-segment long", "'long' is not a number of seconds"),
+    bad_usage("analyse good --rate 8000 --coverage 25", "'25' is not a part"),
+    bad_usage("analyse good --rate 8000 --coverage NaN", "'NaN' is not a part"),
     bad_usage("analyse good --rate 8000 --notes 36", "'36' is not two MIDI notes"),
     bad_usage("analyse good --rate 8000 --notes 36-256", "'36-256' is not two MIDI notes"),
-    bad_usage("analyse good --rate 8000 --minimum-segment long", "'long' is not a number of seconds"),
-    bad_usage("analyse good --rate 8000 --segment-confidence high", "'high' is not a part"),
+    bad_usage("analyse good --rate 8000 --frame-size 4k", "'4k' is not a number of samples"),
+    bad_usage("analyse good --rate 8000 --hop-size -1", "'-1' is not a number of samples"),
+    refused("analyse good --rate 192001 --card new", "(refusal 1)"),
+    refused("analyse good --rate 8000 --frame-size 65537", "a frame has more than 65536 samples (refusal 2)"),
+    refused("analyse good --rate 8000 --hop-size 1048577", "the hop is above 1048576 samples (refusal 2)"),
+    refused("analyse good --rate 8000 --window NaN", "the local window is not finite (refusal 3)"),
+    refused("analyse good --rate 8000 --local-hop inf", "the local hop is not finite (refusal 3)"),
+    refused(
+        "analyse good --rate 8000 --minimum-segment inf",
+        "the minimum segment is not finite (refusal 3)",
+    ),
+    refused("analyse good --rate 8000 --local-hop 0.4999", "(refusal 5)"),
+    refused("analyse good --rate 1 --frame-size 14401", "a frame is longer than four hours"),
+    refused("analyse good --rate 8000 --frame-size 31", "a frame has fewer than 32 samples"),
+    refused("analyse good --rate 8000 --hop-size 0", "the hop is 0"),
+    refused("analyse good --rate 8000 --notes 95-36", "the lowest note is above the highest"),
+    refused("key-at good 1 --rate 8000 --window 0", "the local window is not above 0"),
+    refused("key-at good 1 --rate 8000 --local-hop -1", "the local hop is not above 0"),
+    refused(
+        "analyse good --rate 8000 --window -inf --local-hop 0.1",
+        "the local window is not finite (refusal 3)",
+    ),
 ];
 
 /// Files that are read or written.
-const FILES: [Case; 33] = [
+const FILES: [Case; 42] = [
     bad_usage("analyse good --rate 8000 --card", "--card needs"),
     bad_usage("analyse good --rate 8000 --svg", "--svg needs"),
+    bad_usage("analyse good --rate 8000 --card=", "'' is not the name of a file"),
+    bad_usage("analyse good --rate 8000 --svg new/", "'new/' is not the name of a file"),
+    bad_usage("analyse good --rate 8000 --card behind --svg dangling", "same file"),
+    bad_usage("demo --svg - --track -", "one file can go to standard output"),
+    refused("analyse good --rate 8000 --card circle", "circle: "),
+    refused("analyse empty --rate 8000 --card new", "empty: there are no samples"),
+    refused("analyse - --rate 8000 --card new", "-: there are no samples"),
+    refused("demo --svg new --track new", "new: would be written twice"),
+    refused("demo --svg behind --track dangling", "dangling: would be written twice"),
     bad_usage("analyse good good --rate 8000 --card new", "one file"),
     bad_usage("analyse good good --rate 8000 --svg -", "one file"),
     bad_usage("analyse good --rate 8000 --card new --cards .", "--card and --cards do not go together"),
@@ -101,8 +128,11 @@ const FILES: [Case; 33] = [
     refused("analyse . --rate 8000 --card new", ".: "),
     refused("analyse odd --rate 8000 --card new --svg old", "odd: the length is no multiple"),
     refused("analyse spoilt --rate 8000 --card new --svg old", "spoilt: the frame at position 0"),
-    refused("analyse spoilt --rate 8000 --json", "refusal 9"),
-    refused("analyse long --rate 1 --frame-size 32 --card new", "refusal 4"),
+    refused("analyse spoilt --rate 8000 --json", "(refusal 9)"),
+    refused(
+        "analyse long --rate 1 --frame-size 32 --card new",
+        "16000 samples at 1 Hz are more than four hours (refusal 4)",
+    ),
     refused("analyse good --rate 8000 --card new --svg nowhere/new", "nowhere/new: "),
     refused("analyse good --rate 8000 --svg new --card nowhere/new", "nowhere/new: "),
     refused("analyse good --rate 8000 --card new --svg .", ".: is a folder"),
@@ -133,10 +163,10 @@ fn kinds() -> impl Iterator<Item = Case> {
     const LINES: [Case; 7] = [
         refused(
             "analyse wav --rate 8000 --card new",
-            "ffmpeg -v error -i 'wav' -f f32le -ac 1 -ar 8000 - | ulyptesh",
+            "ffmpeg -nostdin -v error -i 'file:wav' -f f32le -ac 1 -ar 8000 - | ulyptesh",
         ),
-        refused("analyse rf64 --rate 8000", "ffmpeg -v error -i 'rf64' "),
-        refused("analyse aiff --rate 8000", "ffmpeg -v error -i 'aiff' "),
+        refused("analyse rf64 --rate 8000", "-i 'file:rf64' "),
+        refused("analyse aiff --rate 8000", "-i 'file:aiff' "),
         refused("analyse flac --rate 8000 --json", "flac: a FLAC file (fLaC), and no raw samples"),
         refused("analyse mp3 --rate 8000", "mp3: an MP3 file (ID3)"),
         refused("key-at ogg 1 --rate 8000", "ogg: an Ogg file (OggS)"),
@@ -145,7 +175,8 @@ fn kinds() -> impl Iterator<Item = Case> {
     LINES.into_iter()
 }
 
-/// Files that are good, odd, too loud, silent, too long at 1 Hz, or of another kind; and one that is there before.
+/// Files that are good, odd, too loud, silent, too long at 1 Hz, empty or of another kind; one that is there before, and
+/// links to nothing.
 fn filled() -> Folder {
     let folder = Folder::new("tool-refusals");
     let tone: Vec<f32> = (0..16_000).map(|place| (place as f32 * 0.2).sin()).collect();
@@ -157,6 +188,9 @@ fn filled() -> Folder {
     folder.put_samples("long", &[0.0; 16_000]);
     folder.put("odd", &[0; 16_001]);
     folder.put("old", b"old");
+    folder.put("empty", b"");
+    folder.put_link("dangling", "behind");
+    folder.put_link("circle", "circle");
     KINDS.iter().for_each(|(name, first)| folder.put(name, first));
     folder
 }

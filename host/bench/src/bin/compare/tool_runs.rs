@@ -1,11 +1,15 @@
 //! Runs of the tool's program, in a folder of their own.
 use std::collections::BTreeMap;
 use std::ffi::OsStr;
-use std::fs::{self, Permissions};
+use std::fs::{self, File, Permissions};
 use std::io::Write;
 use std::os::unix::fs::{MetadataExt, PermissionsExt, symlink};
 use std::path::PathBuf;
 use std::process::{Command, Output, Stdio, id};
+use std::sync::atomic::{AtomicUsize, Ordering};
+
+/// Tells the folders of one run apart.
+static FOLDERS: AtomicUsize = AtomicUsize::new(0);
 
 /// A folder beside the programs that is there as long as this.
 pub struct Folder(PathBuf);
@@ -18,7 +22,8 @@ fn programs() -> PathBuf {
 
 impl Folder {
     pub fn new(name: &str) -> Self {
-        let folder = programs().join(format!("{name}-{}", id()));
+        let nth = FOLDERS.fetch_add(1, Ordering::Relaxed);
+        let folder = programs().join(format!("{name}-{}-{nth}", id()));
         fs::create_dir_all(&folder).expect("a new folder");
         Self(folder)
     }
@@ -34,6 +39,16 @@ impl Folder {
 
     pub fn read(&self, name: &str) -> Option<Vec<u8>> {
         fs::read(self.0.join(name)).ok()
+    }
+
+    /// A file to read from.
+    pub fn open(&self, name: &str) -> File {
+        File::open(self.0.join(name)).expect("the file is there")
+    }
+
+    /// A new file to write to.
+    pub fn create(&self, name: &str) -> File {
+        File::create(self.0.join(name)).expect("a new file")
     }
 
     pub fn put_link(&self, name: &str, target: &str) {

@@ -10,9 +10,9 @@ use crate::tool_inputs::{RATES, Track, file_of, track};
 use crate::tool_runs::{Folder, text};
 use bench::oracle::key_lime::expose::key_number;
 use bench::oracle::key_lime::{KeyAnalysis, KeyConfig, MusicalKey, analyze};
+use bench::oracle::number;
 use bench::oracle::tables::Tables;
 use std::sync::Arc;
-use ulyptesh::calls::NO_KEY;
 use ulyptesh::{Refusal, Settings};
 
 const TRACKS: usize = 50;
@@ -114,10 +114,6 @@ fn ours(track: &Track, folder: &Folder) -> Answer {
         (Some(1), None, None) if printed.is_empty() => Answer::Refused(said),
         _ => Answer::Garbled(format!("{:?} {printed} {said}", ended.status)),
     }
-}
-
-fn number(key: Option<MusicalKey>) -> u32 {
-    key.map_or(NO_KEY, |key| key_number(key).into())
 }
 
 fn their_name(key: MusicalKey) -> Named {

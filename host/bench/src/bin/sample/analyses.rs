@@ -9,15 +9,14 @@ use crate::tracks::{Asked, FRAME_SIZE, NOTES, RATE, every_track};
 use bench::oracle::key_lime::expose::{
     ConstantQ, Estimate, Goertzel, estimates, frame_chroma_sequence, hanning_window, key_number,
 };
-use bench::oracle::key_lime::{ChromaFrame, KeyAnalysis, KeyConfig, KeySegment, MusicalKey, analyze};
+use bench::oracle::key_lime::{ChromaFrame, KeyAnalysis, KeyConfig, KeySegment, analyze};
+use bench::oracle::number;
+use ulyptesh::calls::NO_KEY;
 
 /// The rows that each call is lent.
 const FRAMES: usize = 8;
 const ESTIMATES: usize = 5;
 const SEGMENTS: usize = 5;
-
-/// The number for a missing key.
-const NO_KEY: u32 = 24;
 
 /// What the library has to answer, and what it has to leave in its rows.
 #[derive(Default)]
@@ -121,10 +120,6 @@ fn outcome(asked: &Asked) -> Outcome {
     let analysis = analyze(&asked.samples, asked.rate, asked.config);
     let estimates = if analysis.key.is_some() { found_estimates(asked, &frames) } else { vec![] };
     Outcome { frames, energies, estimates, analysis: Some(analysis), ..Outcome::default() }
-}
-
-fn number(key: Option<MusicalKey>) -> u32 {
-    key.map_or(NO_KEY, |key| key_number(key).into())
 }
 
 impl Outcome {
