@@ -183,17 +183,20 @@ static int refused(UlypteshSettings settings, uint32_t expected)
 /* Settings by which no track can be analysed. */
 static int settings_refused(void)
 {
-    UlypteshSettings fast = usual(), wide = fast, vague = fast, hasty = fast, still = fast, turned = fast;
+    UlypteshSettings fast = usual(), wide = fast, vague = fast, hasty = fast, still = fast, turned = fast, slow = fast;
     fast.rate = 192001;
     wide.frame_size = SIZE_MAX;
     vague.minimum_segment_seconds = NAN;
     hasty.local_hop_seconds = 0.4f;
     still.hop_size = 0;
     turned.minimum_midi_note = turned.maximum_midi_note + 1;
+    slow.rate = 1;
+    slow.frame_size = ULYPTESH_LONGEST_TRACK_SECONDS + 1;
     return refused(fast, ULYPTESH_RATE_TOO_HIGH) && refused(wide, ULYPTESH_SIZE_TOO_LARGE)
         && refused(vague, ULYPTESH_SETTING_NOT_FINITE) && refused(hasty, ULYPTESH_LOCAL_HOP_TOO_SHORT)
         && refused(still, ULYPTESH_EASY_NOTHING_ANALYSED) && refused(turned, ULYPTESH_EASY_NOTHING_ANALYSED)
-        && refused(ulyptesh_easy_settings(0), ULYPTESH_EASY_NOTHING_ANALYSED);
+        && refused(ulyptesh_easy_settings(0), ULYPTESH_EASY_NOTHING_ANALYSED)
+        && refused(slow, ULYPTESH_EASY_NOTHING_ANALYSED);
 }
 
 /* A major third and a fifth over C. */

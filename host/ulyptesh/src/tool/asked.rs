@@ -1,5 +1,5 @@
 //! What `analyse` is asked: files, settings, the form of the answer, and what else is written.
-use super::failure::{Failure, bad_usage, refused_about, shown};
+use super::failure::{Failure, bad_usage, quoted, refused_about, shown};
 use super::outputs::place_of;
 use super::samples::STANDARD_INPUT;
 use super::settings;
@@ -62,7 +62,7 @@ impl Target {
         match (words.word(file), words.word(folder)) {
             (None, None) => Ok(Self::Nowhere),
             (Some(word), _) if is_no_file(word) => {
-                Err(bad_usage(format!("{file}: '{}' is not the name of a file", shown(word))))
+                Err(bad_usage(format!("{file}: {} is not the name of a file", quoted(word))))
             }
             (Some(_), Some(_)) => Err(bad_usage(format!("{file} and {folder} do not go together"))),
             (Some(word), None) if word == STANDARD_OUTPUT => Ok(Self::Printed),
@@ -171,18 +171,22 @@ impl Asked {
         self.check_places()
     }
 
+    /// Every file that is written: what it is, of which track, and where it goes.
+    fn outputs(&self) -> impl Iterator<Item = (&'static str, &OsStr, PathBuf)> {
+        self.files.iter().flat_map(|track| {
+            let kinds = [("card", self.card_place(track)), ("picture", self.svg_place(track))];
+            kinds.into_iter().filter_map(|(what, place)| Some((what, track.as_os_str(), place?)))
+        })
+    }
+
     /// No file is written twice, and none that is read.
     fn check_places(&self) -> Result<(), Failure> {
         let mut taken: HashMap<PathBuf, (&str, &OsStr)> = HashMap::new();
-        for track in &self.files {
-            for (what, place) in [("card", self.card_place(track)), ("picture", self.svg_place(track))] {
-                let Some(place) = place else { continue };
-                if let Some((other, its_track)) = taken.insert(place_of(&place), (what, track)) {
-                    let (track, its_track, place) =
-                        (shown(track), shown(its_track), shown(place.as_os_str()));
-                    let both = format!("the {other} of {its_track} and the {what} of {track}");
-                    return Err(bad_usage(format!("{both} would be the same file, {place}")));
-                }
+        for (what, track, place) in self.outputs() {
+            if let Some((other, its_track)) = taken.insert(place_of(&place), (what, track)) {
+                let (track, its_track, place) = (shown(track), shown(its_track), shown(place.as_os_str()));
+                let both = format!("the {other} of {its_track} and the {what} of {track}");
+                return Err(bad_usage(format!("{both} would be the same file, {place}")));
             }
         }
         let read_too = self.files.iter().find(|track| taken.contains_key(&place_of(Path::new(track))));

@@ -28,12 +28,18 @@ pub fn tell(message: &str) {
     drop(writeln!(stderr(), "ulyptesh: {message}"));
 }
 
-/// A name as it is safe to show: no control character reaches the terminal, an empty name is seen, and no two names
-/// look alike for it.
+/// A name as it is safe to show, in quotes where it is empty.
 pub fn shown(name: &OsStr) -> String {
-    if name.is_empty() {
-        return "''".into();
-    }
+    if name.is_empty() { quoted(name) } else { escaped(name) }
+}
+
+/// A word in quotes, as it is safe to show.
+pub fn quoted(word: &OsStr) -> String {
+    format!("'{}'", escaped(word))
+}
+
+/// A name in which no control character reaches the terminal, and no two names look alike for it.
+fn escaped(name: &OsStr) -> String {
     let escaped = |c: char| match c {
         '\\' => "\\\\".into(),
         c if c.is_control() => c.escape_default().to_string(),

@@ -17,7 +17,7 @@ mod text;
 mod tracks;
 mod words;
 
-use failure::{Failure, bad_usage, refused, shown, tell};
+use failure::{Failure, bad_usage, quoted, refused, tell};
 use std::ffi::{OsStr, OsString};
 use std::io::{Write, stdout};
 use std::process::ExitCode;
@@ -91,7 +91,7 @@ fn name_of_word(words: Words) -> Result<(), Failure> {
 
 fn command(name: &OsStr) -> Result<&'static Command, Failure> {
     let found = COMMANDS.iter().find(|command| name == command.name);
-    found.ok_or_else(|| bad_usage(format!("'{}' is not a command", shown(name))))
+    found.ok_or_else(|| bad_usage(format!("{} is not a command", quoted(name))))
 }
 
 /// All that the tool says of itself.

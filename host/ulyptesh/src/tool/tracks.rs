@@ -1,7 +1,7 @@
 //! The commands that analyse tracks.
 use super::asked::{self, Asked};
 use super::desk::Desk;
-use super::failure::{Failure, bad_usage, refused, shown};
+use super::failure::{Failure, bad_usage, quoted, refused, shown};
 use super::print;
 use super::report::Report;
 use super::settings;
@@ -53,7 +53,7 @@ pub fn analyse(words: Words) -> Result<(), Failure> {
 fn time(word: &OsString) -> Result<f64, Failure> {
     let what = "a time in seconds";
     let time: f64 = value(word, what)?;
-    if time.is_finite() { Ok(time) } else { Err(bad_usage(format!("'{}' is not {what}", shown(word)))) }
+    if time.is_finite() { Ok(time) } else { Err(bad_usage(format!("{} is not {what}", quoted(word)))) }
 }
 
 pub fn key_at(words: Words) -> Result<(), Failure> {

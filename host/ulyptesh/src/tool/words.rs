@@ -1,5 +1,5 @@
 //! The words behind a command: plain ones, and options.
-use super::failure::{Failure, bad_usage, shown};
+use super::failure::{Failure, bad_usage, quoted};
 use std::ffi::{OsStr, OsString};
 use std::os::unix::ffi::OsStrExt;
 use std::str::FromStr;
@@ -68,7 +68,7 @@ impl Words {
     ) -> Result<(), Failure> {
         let (name, joined) = parted(word);
         let Some(&Known { name, has_word }) = known.iter().find(|option| name == option.name) else {
-            return Err(bad_usage(format!("'{}' is not an option of this command", shown(word))));
+            return Err(bad_usage(format!("{} is not an option of this command", quoted(word))));
         };
         if self.has(name) {
             return Err(bad_usage(format!("{name} is given twice")));
@@ -105,5 +105,5 @@ impl Words {
 /// The value of a word, told in words what it has to be.
 pub fn value<A: FromStr>(word: &OsStr, what: &str) -> Result<A, Failure> {
     let read = word.to_str().and_then(|word| word.parse().ok());
-    read.ok_or_else(|| bad_usage(format!("'{}' is not {what}", shown(word))))
+    read.ok_or_else(|| bad_usage(format!("{} is not {what}", quoted(word))))
 }
