@@ -1,10 +1,11 @@
-//! An analyzer that is used again, beside new ones; its frames alone, beside those of an analysis; and the settings
-//! that it takes, beside the request's words.
+//! An analyzer that is used again, beside new ones; its frames alone, beside those of an analysis; its estimates,
+//! beside the rows of a call; and the settings that it takes, beside the request's words.
 use crate::analysis_calls::refusal_of;
 use crate::frame_calls::settings;
 use crate::groups::{Groups, compared_as_shown};
 use bench::inputs::dice::Dice;
 use bench::inputs::tracks::{KINDS, Maker};
+use ulyptesh::calls::{Buffers, EstimateRows, Sheet, analyse};
 use ulyptesh::{Analysis, Analyzer, LoudFrame, Refusal, Settings};
 
 /// Streams of the seed from here on.
@@ -108,6 +109,37 @@ fn compare_analyzers(groups: &mut Groups) {
     groups.group("an analyzer used again", 0..TURNS, again, |nth| analysed_anew(seed, nth));
     let frames = |nth: usize| frames[nth].clone();
     groups.group("an analyzer's frames alone", 0..TURNS, frames, |nth| left_anew(seed, nth));
+    let left = |nth| estimates_left(seed, nth);
+    groups.group("an analyzer's estimates", 0..TURNS, |nth| estimates(seed, nth), left);
+}
+
+/// The estimates that an analyzer has of a track, or none where it is refused.
+fn estimates(seed: u64, nth: usize) -> Vec<(f64, (u8, f32))> {
+    let (settings, samples) = of_windows(seed, nth);
+    let mut analyzer = Analyzer::new(settings).expect("settings that are taken");
+    drop(analyzer.analyse(&samples));
+    analyzer.estimates().map(|told| (told.middle, (told.key.number(), told.confidence))).collect()
+}
+
+/// Those that the call leaves in its rows.
+fn estimates_left(seed: u64, nth: usize) -> Vec<(f64, (u8, f32))> {
+    let (settings, samples) = of_windows(seed, nth);
+    let mut lent = Buffers::for_track(&settings, samples.len());
+    let told = analyse(settings, &Sheet::for_call(&settings), &samples, &mut lent);
+    let EstimateRows { middles, numbers, certainties } = lent.estimates;
+    let rows = middles.into_iter().zip(numbers.into_iter().zip(certainties));
+    rows.take(told.estimates as usize).collect()
+}
+
+/// Ten seconds or so with a window every half second.
+fn of_windows(seed: u64, nth: usize) -> (Settings, Vec<f32>) {
+    let mut dice = Dice::new(seed, STREAM + CHECKED as u64 + nth as u64);
+    let settings = settings(RATES[0], (48, 95), 1_024, 512).with(|settings| {
+        settings.local_window_seconds = 1.0;
+        settings.local_hop_seconds = 0.5;
+    });
+    let (kind, length) = (&KINDS[nth % KINDS.len()], 60_000 + dice.below(40_000));
+    (settings, (kind.make)(&mut Maker { dice, rate: RATES[0] }, length))
 }
 
 fn at_limit_or<A: Copy>(dice: &mut Dice, limits: &[A], usual: A) -> A {
