@@ -33,7 +33,7 @@ pub struct Estimate {
 /// What the library answers where it is lent fewer rows than a track needs.
 const TOO_FEW_ROWS: u32 = 8;
 
-/// Settings and the sheet made for them; the two change together only.
+/// Settings, and a sheet whose head is theirs.
 #[derive(Debug, Clone)]
 struct Tables {
     settings: Settings,
@@ -61,8 +61,8 @@ impl Tables {
 
 /// Owns what the library is lent, and uses it again from track to track.
 ///
-/// The tables are made for its settings, and made anew where these change: no track meets another rate's. Give each
-/// thread an analyzer of its own.
+/// The tables are made for its settings, and made anew where rate, notes or frame size change: no track meets another
+/// rate's. Give each thread an analyzer of its own.
 ///
 /// ```
 /// # fn main() -> Result<(), Box<dyn std::error::Error>> {

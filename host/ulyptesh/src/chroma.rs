@@ -28,7 +28,8 @@ pub fn scores(chroma: &Chroma) -> [f32; KEYS] {
     room
 }
 
-/// The key of a chroma, of the size that the library has: normalised to a sum of 1. Far from it scores lose digits.
+/// The key of a chroma, meant for one that is normalised to a sum of 1 as the library's are: far from that size the
+/// floor of the correlation's divisor, or an overflow, decides the scores.
 ///
 /// ```
 /// let found = ulyptesh::key(&[1.0, 0.0, 0.0, 0.0, 1.0, 0.0, 0.0, 1.0, 0.0, 0.0, 0.0, 0.0]);

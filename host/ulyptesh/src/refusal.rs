@@ -94,7 +94,8 @@ fn nothing_because(settings: &Settings) -> &'static str {
 }
 
 impl Refusal {
-    /// What the library's number means for this call; the position is a frame's.
+    /// What the library's number means for this call; the position is a frame's. 0 stands for settings with which
+    /// nothing is analysed.
     pub fn new(number: u32, position: u64, settings: &Settings, samples: usize) -> Self {
         let Settings { rate, frame_size, hop_size, local_hop_seconds: seconds, .. } = *settings;
         match number {

@@ -1,6 +1,5 @@
 //! From frames to segments and the alternate key, step by step.
-use ulyptesh::calls::answer_of;
-use ulyptesh::calls::{EstimateRows, SegmentRows};
+use ulyptesh::calls::{EstimateRows, SegmentRows, answer_of};
 use ulyptesh::{Chroma, Settings};
 
 /// What segments rest on beside the estimates: `key` and `confidence` are the whole track's.

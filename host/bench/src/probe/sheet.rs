@@ -1,6 +1,5 @@
 //! The rules of a sheet, and the filters over it.
-use ulyptesh::calls::answer_of;
-use ulyptesh::calls::{Sheet, SheetHead};
+use ulyptesh::calls::{Sheet, SheetHead, answer_of};
 use ulyptesh::{Chroma, Settings};
 
 #[expect(improper_ctypes, reason = "the settings are those of the C header, whatever is added to them")]

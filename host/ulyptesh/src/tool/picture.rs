@@ -1,8 +1,7 @@
 //! An analysis as a picture: the segments along the time, and the chroma below them.
 use super::heat_map::{self, BOTTOM};
 use super::text::named;
-use ulyptesh::LoudFrame;
-use ulyptesh::{Analysis, Analyzer, Key, Mode, Segment};
+use ulyptesh::{Analysis, Analyzer, Key, LoudFrame, Mode, Segment};
 
 /// Where time begins, and how far it goes.
 pub const LEFT: usize = 60;
@@ -113,12 +112,11 @@ impl<'a> Picture<'a> {
         format!("{name}: {:.2} s, {frames} loud frames{lone}", self.told.duration)
     }
 
-    /// A line of a block at this height, where it is short enough.
-    fn line(&self, segment: &Segment, text: &str, letter: f64, below: usize, style: &str) -> String {
+    /// A line of a block at this height: the first of the texts that is short enough.
+    fn line(&self, segment: &Segment, texts: &[String], letter: f64, below: usize, style: &str) -> String {
         let (left, right) = (self.x(segment.start), self.x(segment.end));
-        if text.len() as f64 * letter > right - left {
-            return String::new();
-        }
+        let fits = |text: &&String| text.len() as f64 * letter <= right - left;
+        let Some(text) = texts.iter().find(fits) else { return String::new() };
         let (middle, y) = ((left + right) / 2.0, BLOCKS + below);
         format!("<text x=\"{middle:.1}\" y=\"{y}\"{style}>{text}</text>")
     }
@@ -127,18 +125,20 @@ impl<'a> Picture<'a> {
         let (left, key) = (self.x(segment.start), segment.key);
         let width = self.x(segment.end) - left;
         let times = format!("{} to {}", self.clock(segment.start), self.clock(segment.end));
-        let confidence = format!("confidence {:.3}", segment.confidence);
+        let number = format!("{:.3}", segment.confidence);
+        let confidence = format!("confidence {number}");
         let border = self.told.lone_other_key().map_or(SEGMENT_BORDER, |_| OTHER_BORDER);
+        let names = [named(key, None), key.name(), key.camelot()];
+        let title = format!("{}, {times}, {confidence}", names[0]);
         let lines = [
-            self.line(segment, &named(key, None), LARGE_LETTER, 20, " font-size=\"15\" font-weight=\"bold\""),
-            self.line(segment, &confidence, SMALL_LETTER, 36, ""),
-            self.line(segment, &times, SMALL_LETTER, 51, ""),
+            self.line(segment, &names, LARGE_LETTER, 20, " font-size=\"15\" font-weight=\"bold\""),
+            self.line(segment, &[confidence, number], SMALL_LETTER, 36, ""),
+            self.line(segment, &[times], SMALL_LETTER, 51, ""),
         ];
         format!(
-            "<g><title>{}, {times}, {confidence}</title>\
+            "<g><title>{title}</title>\
              <rect x=\"{left:.1}\" y=\"{BLOCKS}\" width=\"{width:.1}\" height=\"{BLOCK_HEIGHT}\" fill=\"{}\" \
              {border}/>{}</g>\n",
-            named(key, None),
             colour(key),
             lines.concat()
         )
