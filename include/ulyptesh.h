@@ -47,7 +47,8 @@ extern "C" {
 /* Bytes of a card with so many segments; at most 4,994. */
 #define ULYPTESH_CARD_BYTES(segments) ((49 + 39 * (size_t)(segments) + 7) / 8)
 
-/* Why a call refuses. The first of 1 to 8 that applies is answered. All but 9 and 10 write nothing but the answer. */
+/* Why a call refuses. The first of 1 to 8 that applies is answered, and the first of 20 to 24. All but 9 and 10 write
+   nothing but the answer. */
 typedef enum UlypteshRefusal {
     /* not refused; a track that tells no key has this too, with key 24 */
     ULYPTESH_DONE = 0,
@@ -71,12 +72,20 @@ typedef enum UlypteshRefusal {
     ULYPTESH_FRAME_NOT_FINITE = 9,
     /* analyse: a window's start did not grow by the hop; loud frames and the estimates so far stand in their rows */
     ULYPTESH_WINDOW_STAYS = 10,
-    /* key name: a number above 23; card: a card rule is broken, or the segment slices are not equally long */
+    /* key name: a number above 23; cards: a card rule is broken, or the segment slices are not equally long */
     ULYPTESH_UNWRITABLE = 11,
     /* fewer bytes are lent than the name or card has */
     ULYPTESH_TOO_FEW_BYTES = 12,
     /* scores, key: a chroma not of 12 numbers, or room for fewer than 24 scores */
-    ULYPTESH_WRONG_LENGTH = 18
+    ULYPTESH_WRONG_LENGTH = 18,
+    /* read card: under 7 bytes or, where the layout is known, another length than the card's segment count gives */
+    ULYPTESH_CARD_WRONG_LENGTH = 20,
+    /* read card: the layout is not 1 */
+    ULYPTESH_CARD_UNKNOWN_LAYOUT = 21,
+    /* read card: a card rule is broken, or a bit that fills the last byte is set */
+    ULYPTESH_CARD_BROKEN = 22,
+    /* read card: fewer segment rows are lent than the card has segments */
+    ULYPTESH_TOO_FEW_CARD_ROWS = 24
 } UlypteshRefusal;
 
 /* What a call is asked. Nothing is analysed, without a refusal, where the rate or the hop size is 0, the frame size is
@@ -144,6 +153,16 @@ typedef struct UlypteshAnalyseResult {
     uint64_t frames, estimates, segments; /* how many rows of each kind are written */
     float chroma[ULYPTESH_PITCH_CLASSES]; /* of the whole track; a NaN is not ruled out */
 } UlypteshAnalyseResult;
+
+/* What a card says. Without a key (refused, or an empty card) the three keys are 24 and the other numbers 0. */
+typedef struct UlypteshCardRead {
+    uint32_t refusal;
+    uint32_t key, dsp_key; /* the key of the track; the key by profiles alone */
+    uint32_t alternate; /* another key that much of the track is in, or 24 */
+    uint32_t coverage; /* the part of the track that is in the alternate, in thousandths, or 0 */
+    uint32_t confidence; /* of the key, in thousandths */
+    uint64_t segments; /* how many rows are written */
+} UlypteshCardRead;
 
 /* Writes the loud frames of a track. P, the frame positions, is (samples - frame size) / hop size, rounded down,
    plus 1. */
@@ -213,6 +232,26 @@ UlypteshWritten ulyptesh_write_card(
     const float *confidences, size_t confidence_count, /* as many */
     uint8_t *bytes, size_t byte_count); /* ULYPTESH_CARD_BYTES of the segments; the card, from the front */
 
+/* Reads a key card. The room for its segments is the shortest of the four slices that are written to. */
+UlypteshCardRead *ulyptesh_read_card(
+    UlypteshCardRead *answer, /* written whole */
+    const uint8_t *bytes, size_t byte_count, /* the card, exactly */
+    uint32_t *starts, size_t start_count, /* at most 1,023 are needed; the starts in milliseconds, from the front */
+    uint32_t *ends, size_t end_count, /* as many; their ends in milliseconds, from the front */
+    uint8_t *keys, size_t key_count, /* as many; their keys, from the front */
+    uint16_t *confidences, size_t confidence_count); /* as many; their confidences in thousandths, from the front */
+
+/* Writes the key card of such numbers: what ulyptesh_read_card has read gives the bytes that it was read from. A number
+   that is too large for its field breaks a card rule. Of the segments, lend what was written. */
+UlypteshWritten ulyptesh_write_packed_card(
+    uint32_t key, uint32_t dsp_key, uint32_t alternate, /* 24 for one that is missing */
+    uint32_t coverage, uint32_t confidence, /* in thousandths */
+    const uint32_t *starts, size_t start_count, /* in ms, at most 1,023; each is the end before it, the first is 0 */
+    const uint32_t *ends, size_t end_count, /* as many */
+    const uint8_t *keys, size_t key_count, /* as many */
+    const uint16_t *confidences, size_t confidence_count, /* as many */
+    uint8_t *bytes, size_t byte_count); /* ULYPTESH_CARD_BYTES of the segments; the card, from the front */
+
 /* The number of the library's interface: ULYPTESH_ABI where this header is the library's own. */
 uint32_t ulyptesh_abi(void);
 
@@ -226,6 +265,7 @@ ULYPTESH_IS_OF(UlypteshKeyResult, 20);
 ULYPTESH_IS_OF(UlypteshWritten, 16);
 ULYPTESH_IS_OF(UlypteshFramesResult, 24);
 ULYPTESH_IS_OF(UlypteshAnalyseResult, 112);
+ULYPTESH_IS_OF(UlypteshCardRead, 32);
 #undef ULYPTESH_IS_OF
 
 #ifdef __cplusplus
