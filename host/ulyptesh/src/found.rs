@@ -1,6 +1,6 @@
 //! What an analysis finds in a track.
-use crate::calls::{CardFields, NO_KEY};
-use crate::card::{CardError, card};
+use crate::calls::CardFields;
+use crate::card::{CardError, card, column, number};
 use crate::chroma::Chroma;
 use crate::keys::Key;
 
@@ -55,10 +55,6 @@ pub struct Analysis {
     pub duration: f64,
 }
 
-fn number(key: Option<Key>) -> u32 {
-    key.map_or(NO_KEY, |key| key.number().into())
-}
-
 impl Analysis {
     /// The key that sounds at a mix point, in seconds; none outside the track.
     pub fn key_at(&self, seconds: f64) -> Option<Key> {
@@ -75,23 +71,19 @@ impl Analysis {
         }
     }
 
-    /// The key card, as a deck reads it.
+    /// The bytes of the key card, as a deck reads it; [`Card`](crate::Card) tells what it reads.
     pub fn card(&self) -> Result<Vec<u8>, CardError> {
         let each = &self.segments;
-        let starts: Vec<f64> = each.iter().map(|segment| segment.start).collect();
-        let ends: Vec<f64> = each.iter().map(|segment| segment.end).collect();
-        let keys: Vec<u8> = each.iter().map(|segment| segment.key.number()).collect();
-        let confidences: Vec<f32> = each.iter().map(|segment| segment.confidence).collect();
         card(&CardFields {
             key: number(self.key),
             dsp_key: number(self.dsp_key),
             alternate: number(self.alternate.map(|alternate| alternate.key)),
             coverage: self.alternate.map_or(0.0, |alternate| alternate.coverage),
             confidence: self.confidence,
-            starts: &starts,
-            ends: &ends,
-            keys: &keys,
-            confidences: &confidences,
+            starts: &column(each, |segment| segment.start),
+            ends: &column(each, |segment| segment.end),
+            keys: &column(each, |segment| segment.key.number()),
+            confidences: &column(each, |segment| segment.confidence),
         })
     }
 }
@@ -99,92 +91,7 @@ impl Analysis {
 #[cfg(test)]
 mod tests {
     use super::*;
-    use std::iter;
-
-    /// So many analyses are made, each with a segment more than the one before it, up to twelve.
-    const ANALYSES: usize = 1_300;
-
-    /// An analysis that a card holds, by columns.
-    struct Told {
-        key: u32,
-        dsp_key: u32,
-        alternate: u32,
-        coverage: f32,
-        confidence: f32,
-        starts: Vec<f64>,
-        ends: Vec<f64>,
-        keys: Vec<u8>,
-        confidences: Vec<f32>,
-    }
-
-    /// The generator splitmix64.
-    struct Random(u64);
-
-    impl Random {
-        fn below(&mut self, limit: u64) -> u64 {
-            self.0 = self.0.wrapping_add(0x9e37_79b9_7f4a_7c15);
-            let once = (self.0 ^ (self.0 >> 30)).wrapping_mul(0xbf58_476d_1ce4_e5b9);
-            let twice = (once ^ (once >> 27)).wrapping_mul(0x94d0_49bb_1331_11eb);
-            (twice ^ (twice >> 31)) % limit
-        }
-
-        fn key(&mut self) -> u8 {
-            self.below(24) as u8
-        }
-
-        fn part(&mut self) -> f32 {
-            self.below(1_001) as f32 / 1_000.0
-        }
-    }
-
-    /// Without segments there is no key, and one in two keys has an alternate.
-    fn told(random: &mut Random, count: usize) -> Told {
-        let mut end = 0.0;
-        let mut later = |_| {
-            end += (1 + random.below(60_000)) as f64 / 1_000.0;
-            end
-        };
-        let ends: Vec<f64> = (0..count).map(&mut later).collect();
-        let key = if count == 0 { NO_KEY } else { random.key().into() };
-        let other = key != NO_KEY && random.below(2) == 0;
-        Told {
-            key,
-            dsp_key: if count == 0 { NO_KEY } else { random.key().into() },
-            alternate: if other { (key + 1 + random.below(23) as u32) % 24 } else { NO_KEY },
-            coverage: if other { random.part() } else { 0.0 },
-            confidence: if count == 0 { 0.0 } else { random.part() },
-            starts: iter::once(0.0).chain(ends.iter().copied()).take(count).collect(),
-            keys: (0..count).map(|_| random.key()).collect(),
-            confidences: (0..count).map(|_| random.part()).collect(),
-            ends,
-        }
-    }
-
-    fn all_told() -> impl Iterator<Item = Told> {
-        let mut random = Random(44_100);
-        (0..ANALYSES).map(move |nth| told(&mut random, nth % 13))
-    }
-
-    fn analysis(told: &Told) -> Analysis {
-        let segment = |at: usize| Segment {
-            start: told.starts[at],
-            end: told.ends[at],
-            key: Key::ALL[usize::from(told.keys[at])],
-            confidence: told.confidences[at],
-        };
-        let key = |number: u32| Key::try_from(number).ok();
-        Analysis {
-            key: key(told.key),
-            dsp_key: key(told.dsp_key),
-            alternate: key(told.alternate).map(|key| Alternate { key, coverage: told.coverage }),
-            confidence: told.confidence,
-            chroma: [0.0; 12],
-            segments: (0..told.ends.len()).map(segment).collect(),
-            loud_frame_count: 0,
-            estimate_count: 0,
-            duration: told.ends.last().copied().unwrap_or_default(),
-        }
-    }
+    use crate::made::{Random, Told, all_told, analysis, key_by_counting, told};
 
     /// Each border with its neighbours, the middles between, and times that are not on the track.
     fn points(told: &Told) -> impl Iterator<Item = f64> {
@@ -194,20 +101,18 @@ mod tests {
         borders.chain(middles).chain(outside)
     }
 
-    /// As many segments lie before a point as end at or before it.
-    fn key_by_counting(told: &Told, point: f64) -> Option<u8> {
-        let on_track = (0.0..=*told.ends.last()?).contains(&point);
-        let before = told.ends.iter().filter(|&&end| end <= point).count();
-        on_track.then(|| told.keys[before.min(told.keys.len() - 1)])
-    }
-
     #[test]
     fn mix_points_have_the_key_of_their_segment() {
         for told in all_told() {
             let found = analysis(&told);
             for point in points(&told) {
                 let key = found.key_at(point).map(Key::number);
-                assert_eq!(key, key_by_counting(&told, point), "{point} of {:?}", found.segments);
+                assert_eq!(
+                    key,
+                    key_by_counting(&told.ends, &told.keys, point),
+                    "{point} of {:?}",
+                    found.segments
+                );
             }
         }
     }

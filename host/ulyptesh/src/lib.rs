@@ -1,6 +1,7 @@
 //! The musical key of a track: safe Rust over the calls of the verified library.
 //!
 //! An [`Analyzer`] is all that a planner needs: mono samples in, key, alternate key and key segments out.
+//! A [`Card`] is all that a deck needs: the bytes of a key card in, the same in thousandths and milliseconds out.
 //! [`key`] and [`scores`] judge a single chroma, and [`calls`] has the library's calls one by one, over lent memory.
 //!
 //! ```
@@ -25,13 +26,15 @@ mod card;
 mod chroma;
 mod found;
 mod keys;
+#[cfg(test)]
+mod made;
 mod notation;
 mod refusal;
 mod settings;
 mod tables;
 
 pub use analyzer::{Analyzer, Estimate, LoudFrame};
-pub use card::CardError;
+pub use card::{Card, CardAlternate, CardError, CardSegment};
 pub use chroma::{Chroma, FoundKey, key, scores};
 pub use found::{Alternate, Analysis, Segment};
 pub use keys::{Key, Mode, NoSuchKey, Tonic};

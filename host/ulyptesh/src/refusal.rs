@@ -1,4 +1,7 @@
-//! Why a track was not analysed, in words and by the library's number.
+//! Why a track was not analysed or a card not read, in words and by the library's number.
+use crate::calls::{
+    CARD_BROKEN, CARD_UNKNOWN_LAYOUT, CARD_WRONG_LENGTH, LONGEST_CARD, SHORTEST_CARD, TOO_FEW_CARD_ROWS,
+};
 use crate::settings::Settings;
 use std::error::Error;
 use std::fmt;
@@ -61,6 +64,22 @@ pub enum Refusal {
     },
     /// 10: a window's start did not grow when the hop was added.
     WindowStandsStill,
+    /// 20: a card of fewer than 7 bytes or, where the layout is known, not of as many as its segment count gives.
+    #[non_exhaustive]
+    CardWrongLength {
+        /// How many bytes there are.
+        length: usize,
+    },
+    /// 21: the card's layout is not known.
+    #[non_exhaustive]
+    CardUnknownLayout {
+        /// The layout.
+        layout: u8,
+    },
+    /// 22: a card rule is broken, or a bit that fills the card's last byte is set.
+    CardBroken,
+    /// 24: fewer rows are lent than the card has segments.
+    TooFewCardRows,
     /// A number that this crate does not know.
     #[non_exhaustive]
     Unknown {
@@ -93,6 +112,15 @@ fn nothing_because(settings: &Settings) -> &'static str {
     reasons.into_iter().find(|reason| reason.0).map_or("a frame is longer than four hours", |reason| reason.1)
 }
 
+/// Why no card has this length.
+fn wrong_length(length: usize) -> String {
+    match length {
+        ..SHORTEST_CARD => format!("a card has at least {SHORTEST_CARD} bytes, and there are {length}"),
+        SHORTEST_CARD..=LONGEST_CARD => format!("a card with its segment count does not have {length} bytes"),
+        _ => format!("a card has at most {LONGEST_CARD} bytes, and there are more"),
+    }
+}
+
 impl Refusal {
     /// What the library's number means for this call; the position is a frame's. 0 stands for settings with which
     /// nothing is analysed.
@@ -114,6 +142,19 @@ impl Refusal {
         }
     }
 
+    /// What the library's number means for these bytes, read as a card.
+    pub fn of_card(number: u32, bytes: &[u8]) -> Self {
+        match number {
+            CARD_WRONG_LENGTH => Self::CardWrongLength { length: bytes.len() },
+            CARD_UNKNOWN_LAYOUT => {
+                Self::CardUnknownLayout { layout: bytes.first().map_or(0, |first| first >> 4) }
+            }
+            CARD_BROKEN => Self::CardBroken,
+            TOO_FEW_CARD_ROWS => Self::TooFewCardRows,
+            _ => Self::Unknown { number },
+        }
+    }
+
     /// The library's number; 0 for settings that it takes and with which it analyses nothing.
     pub fn number(&self) -> u32 {
         match *self {
@@ -128,6 +169,10 @@ impl Refusal {
             Self::TooLittleRoom => 8,
             Self::FrameNotFinite { .. } => 9,
             Self::WindowStandsStill => 10,
+            Self::CardWrongLength { .. } => CARD_WRONG_LENGTH,
+            Self::CardUnknownLayout { .. } => CARD_UNKNOWN_LAYOUT,
+            Self::CardBroken => CARD_BROKEN,
+            Self::TooFewCardRows => TOO_FEW_CARD_ROWS,
             Self::Unknown { number } => number,
         }
     }
@@ -152,7 +197,11 @@ impl Refusal {
                 format!("the frame at position {position} is loud, and its energy or chroma is not finite")
             }
             Self::WindowStandsStill => "the start of a window did not grow by the hop".into(),
-            Self::Unknown { .. } => "the track was refused for a reason unknown here".into(),
+            Self::CardWrongLength { length } => wrong_length(*length),
+            Self::CardUnknownLayout { layout } => format!("the card's layout, {layout}, is not known"),
+            Self::CardBroken => "the card breaks a card rule, or a bit behind its last field is set".into(),
+            Self::TooFewCardRows => "fewer rows were lent than the card has segments".into(),
+            Self::Unknown { .. } => "refused for a reason unknown here".into(),
         }
     }
 }

@@ -1,12 +1,19 @@
 //! Key cards, written into lent bytes.
 use super::written::Written;
 
-/// Bytes of a card with as many segments as it can have, 1,023: 49 bits of header, 39 for each.
-pub const LONGEST_CARD: usize = (49 + 39 * 1_023usize).div_ceil(8);
+/// The most segments on a card.
+pub const MOST_CARD_SEGMENTS: usize = 1_023;
 
-/// What a card is written from: keys by number, times in seconds, confidences and the coverage from 0 to 1.
+/// Bytes of a card without segments: 49 bits of header.
+pub const SHORTEST_CARD: usize = 49usize.div_ceil(8);
+
+/// Bytes of a card with as many segments as it can have: 49 bits of header, 39 for each.
+pub const LONGEST_CARD: usize = (49 + 39 * MOST_CARD_SEGMENTS).div_ceil(8);
+
+/// What a card is written from: keys by number, times in seconds, confidences and the coverage from 0 to 1. The same
+/// in packed numbers is [`PackedFields`](super::PackedFields).
 #[derive(Debug, Clone, Copy)]
-pub struct CardFields<'a> {
+pub struct CardFields<'a, Part = f32, Time = f64, SegmentPart = f32> {
     /// The reported key, 24 where there is none.
     pub key: u32,
     /// The key by profiles alone, 24 where there is none.
@@ -14,17 +21,17 @@ pub struct CardFields<'a> {
     /// The alternate key, 24 where there is none.
     pub alternate: u32,
     /// The alternate's part of the track.
-    pub coverage: f32,
+    pub coverage: Part,
     /// The confidence in the key.
-    pub confidence: f32,
+    pub confidence: Part,
     /// Where each segment starts.
-    pub starts: &'a [f64],
+    pub starts: &'a [Time],
     /// Where each segment ends.
-    pub ends: &'a [f64],
+    pub ends: &'a [Time],
     /// The key of each segment.
     pub keys: &'a [u8],
     /// The confidence in each segment.
-    pub confidences: &'a [f32],
+    pub confidences: &'a [SegmentPart],
 }
 
 unsafe extern "C" {

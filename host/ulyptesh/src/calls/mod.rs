@@ -10,6 +10,7 @@ mod chroma;
 mod frames;
 mod interface;
 mod names;
+mod packed_cards;
 mod rows;
 mod sheet;
 mod written;
@@ -17,11 +18,15 @@ mod written;
 pub use analysis::{AnalyseResult, analyse};
 #[doc(hidden)] // for the leaves of the comparison, which answer in the same way
 pub use by_pointer::answer_of;
-pub use cards::{CardFields, LONGEST_CARD, write_card};
+pub use cards::{CardFields, LONGEST_CARD, MOST_CARD_SEGMENTS, SHORTEST_CARD, write_card};
 pub use chroma::{KeyResult, ScoresResult, WRONG_LENGTH, key, scores};
 pub use frames::{FramesResult, frames};
 pub use interface::{ABI, abi};
 pub use names::{LONGEST_NAME, write_key_name};
+pub use packed_cards::{
+    CARD_BROKEN, CARD_UNKNOWN_LAYOUT, CARD_WRONG_LENGTH, CardRead, PackedFields, TOO_FEW_CARD_ROWS,
+    read_card, write_packed_card,
+};
 pub use rows::{Buffers, EstimateRows, FrameRows, SegmentRows, frame_positions, windows};
 pub use sheet::{Sheet, SheetHead};
 pub use written::{TOO_FEW_BYTES, UNWRITABLE, Written};
