@@ -318,8 +318,8 @@ mod tests {
         let cases: [(&[u8], &str); 8] = [
             (&[], "a card has at least 7 bytes, and there are 0 (refusal 20)"),
             (&ROW_P[..6], "a card has at least 7 bytes, and there are 6 (refusal 20)"),
-            (&ROW_O[..10], "a card with its segment count does not have 10 bytes (refusal 20)"),
-            (&longer[..12], "a card with its segment count does not have 12 bytes (refusal 20)"),
+            (&ROW_O[..10], "10 bytes are not as many as the card's segment count gives (refusal 20)"),
+            (&longer[..12], "12 bytes are not as many as the card's segment count gives (refusal 20)"),
             (&longer, "a card has at most 4994 bytes, and there are more (refusal 20)"),
             (&[0x20; SHORTEST_CARD], "the card's layout, 2, is not known (refusal 21)"),
             (&alternate, "the card breaks a card rule, or a bit behind its last field is set (refusal 22)"),

@@ -116,7 +116,9 @@ fn nothing_because(settings: &Settings) -> &'static str {
 fn wrong_length(length: usize) -> String {
     match length {
         ..SHORTEST_CARD => format!("a card has at least {SHORTEST_CARD} bytes, and there are {length}"),
-        SHORTEST_CARD..=LONGEST_CARD => format!("a card with its segment count does not have {length} bytes"),
+        SHORTEST_CARD..=LONGEST_CARD => {
+            format!("{length} bytes are not as many as the card's segment count gives")
+        }
         _ => format!("a card has at most {LONGEST_CARD} bytes, and there are more"),
     }
 }

@@ -101,21 +101,38 @@ pub struct Asked {
     svg: Target,
 }
 
+/// Both forms of JSON, and whether they are asked for.
+pub fn json_forms(words: &Words) -> [(bool, Form); 2] {
+    [(words.has("--json"), Form::Json), (words.has("--json-lines"), Form::JsonLines)]
+}
+
+/// The one form that is asked for, text where none is; where there are more, the words for all are told.
+pub fn form_of(forms: &[(bool, Form)], all: &str) -> Result<Form, Failure> {
+    let mut asked = forms.iter().filter(|form| form.0).map(|form| form.1);
+    match (asked.next(), asked.next()) {
+        (Some(_), Some(_)) => Err(bad_usage(format!("of {all} one can be had"))),
+        (form, _) => Ok(form.unwrap_or(Form::Text)),
+    }
+}
+
 /// The form that is asked for; a card or a picture on standard output stands there alone.
 fn form(words: &Words, card: &Target, svg: &Target) -> Result<Form, Failure> {
-    let forms = [
-        (words.has("--json"), Form::Json),
-        (words.has("--json-lines"), Form::JsonLines),
+    let others = [
         (words.has("--key-only"), Form::KeyOnly),
         (card.is_printed(), Form::Card),
         (svg.is_printed(), Form::Svg),
     ];
-    let mut asked = forms.into_iter().filter(|form| form.0).map(|form| form.1);
-    match (asked.next(), asked.next()) {
-        (Some(_), Some(_)) => {
-            Err(bad_usage("of --json, --json-lines, --key-only and a file to standard output one can be had"))
-        }
-        (form, _) => Ok(form.unwrap_or(Form::Text)),
+    let forms = [&json_forms(words)[..], &others].concat();
+    form_of(&forms, "--json, --json-lines, --key-only and a file to standard output")
+}
+
+/// The files that are named; standard input can be one of them.
+pub fn files(words: &Words) -> Result<Vec<OsString>, Failure> {
+    let from_input = words.plain.iter().filter(|file| *file == STANDARD_INPUT).count();
+    match words.plain.len() {
+        0 => Err(bad_usage("no file is named")),
+        _ if from_input > 1 => Err(bad_usage("standard input can be read once")),
+        _ => Ok(words.plain.clone()),
     }
 }
 
@@ -126,10 +143,7 @@ pub fn notation(words: &Words) -> Result<Option<Notation>, Failure> {
 
 impl Asked {
     pub fn read(words: &Words) -> Result<Self, Failure> {
-        let files = words.plain.clone();
-        if files.is_empty() {
-            return Err(bad_usage("no file is named"));
-        }
+        let files = files(words)?;
         let settings = settings::read(words)?;
         let card = Target::read(words, "--card", "--cards")?;
         let svg = Target::read(words, "--svg", "--svgs")?;
@@ -155,14 +169,11 @@ impl Asked {
     fn check(&self) -> Result<(), Failure> {
         let for_one = |target: &Target| matches!(target, Target::File(_) | Target::Printed);
         let for_each = |target: &Target| matches!(target, Target::Folder(_));
-        let from_input = self.files.iter().filter(|file| *file == STANDARD_INPUT).count();
+        let from_input = self.files.iter().any(|file| file == STANDARD_INPUT);
         if self.files.len() > 1 && (for_one(&self.card) || for_one(&self.svg)) {
             return Err(bad_usage("--card and --svg go with one file; --cards and --svgs with several"));
         }
-        if from_input > 1 {
-            return Err(bad_usage("standard input can be read once"));
-        }
-        if from_input > 0 && (for_each(&self.card) || for_each(&self.svg)) {
+        if from_input && (for_each(&self.card) || for_each(&self.svg)) {
             return Err(bad_usage("standard input has no name for --cards and --svgs"));
         }
         if self.notation.is_some() && !matches!(self.form, Form::Text | Form::KeyOnly) {

@@ -7,6 +7,7 @@ ulyptesh tells the musical key of tracks.
 
   ulyptesh analyse FILE.. --rate N    key, alternate key and key segments of each track
   ulyptesh key-at FILE SECONDS.. --rate N    the key that sounds at a mix point
+  ulyptesh card FILE..                what key cards say
   ulyptesh key NUMBER x12             the key of a chroma
   ulyptesh key-name NUMBER            the name of a key
   ulyptesh demo                       the library at work on a built-in track
@@ -52,6 +53,17 @@ Settings of analyse and key-at, with what they are where they are not given:
 pub const KEY_AT: &str = "\
 ulyptesh key-at FILE SECONDS.. --rate N [--notation WORD] [SETTING..]
   The key that sounds at each mix point; of several with the time before it.
+";
+
+pub const CARD: &str = "\
+ulyptesh card FILE.. [--json | --json-lines] [--notation WORD]
+  What key cards say: a line for the key, or 'no key', and one for each segment with its start and its
+  end in milliseconds and its key. Of several cards each stands under its file's name. A card that is
+  refused is shown as 'refused' with the number, and does not keep others from being shown.
+  FILE            a card, as analyse --card or --cards writes it; - is standard input
+  --json          an array with an object for each card
+  --json-lines    an object a line for each card
+  --notation WORD keys in another notation, as for analyse
 ";
 
 pub const KEY: &str = "\

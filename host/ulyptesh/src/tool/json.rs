@@ -1,6 +1,6 @@
-//! Analyses as JSON, each number in as few digits as tell it from all others. docs/JSON.md tells the fields.
+//! Analyses and cards as JSON, each number in as few digits as tell it from all others. docs/JSON.md tells the fields.
 use std::fmt::Debug;
-use ulyptesh::{Analysis, Key, Segment};
+use ulyptesh::{Analysis, Card, CardSegment, Key, Refusal, Segment};
 
 /// Grows where a field changes its meaning or goes.
 const VERSION: u32 = 1;
@@ -62,7 +62,10 @@ fn camelot(key: Option<Key>) -> String {
     or_null(key, |key| string(&key.camelot()))
 }
 
-fn object(fields: &[(&str, String)], between: &str) -> String {
+/// A name and what stands there.
+type Field = (&'static str, String);
+
+fn object(fields: &[Field], between: &str) -> String {
     let fields: Vec<String> =
         fields.iter().map(|(name, value)| format!("{}: {value}", string(name))).collect();
     format!("{{{}}}", fields.join(between))
@@ -72,40 +75,80 @@ fn list(items: impl Iterator<Item = String>, between: &str) -> String {
     format!("[{}]", items.collect::<Vec<_>>().join(between))
 }
 
+fn segment_object(start: Field, end: Field, key: Key, confidence: Field) -> String {
+    let key = Some(key);
+    let fields = [("key", name(key)), ("key_number", key_number(key)), ("camelot", camelot(key))];
+    object(&[&[start, end], &fields[..], &[confidence]].concat(), ", ")
+}
+
 fn segment(told: &Segment) -> String {
-    let fields = [
-        ("start", number(told.start)),
-        ("end", number(told.end)),
-        ("key", name(Some(told.key))),
-        ("key_number", key_number(Some(told.key))),
-        ("camelot", camelot(Some(told.key))),
-        ("confidence", number(told.confidence)),
-    ];
-    object(&fields, ", ")
+    let (start, end) = (("start", number(told.start)), ("end", number(told.end)));
+    segment_object(start, end, told.key, ("confidence", number(told.confidence)))
+}
+
+fn card_segment(told: &CardSegment) -> String {
+    let (start, end) = (("start_ms", told.start_ms.to_string()), ("end_ms", told.end_ms.to_string()));
+    segment_object(start, end, told.key, ("confidence_thousandths", told.confidence.to_string()))
+}
+
+/// The fields on a track's keys.
+fn keys(
+    key: Option<Key>,
+    dsp_key: Option<Key>,
+    confidence: Field,
+    other: Option<Key>,
+    coverage: Field,
+) -> Vec<Field> {
+    vec![
+        ("key", name(key)),
+        ("key_number", key_number(key)),
+        ("camelot", camelot(key)),
+        ("dsp_key", name(dsp_key)),
+        ("dsp_key_number", key_number(dsp_key)),
+        confidence,
+        ("alternate", name(other)),
+        ("alternate_number", key_number(other)),
+        ("alternate_camelot", camelot(other)),
+        coverage,
+    ]
 }
 
 /// The object of a track.
 pub fn track(file: &str, rate: u32, told: &Analysis, layout: Layout) -> String {
-    let alternate = told.alternate.map(|other| other.key);
-    let fields = [
+    let confidence = ("confidence", number(told.confidence));
+    let coverage = ("coverage", or_null(told.alternate, |other| number(other.coverage)));
+    let other = told.alternate.map(|other| other.key);
+    let before = vec![
         ("version", VERSION.to_string()),
         ("file", string(file)),
         ("rate", rate.to_string()),
         ("seconds", number(told.duration)),
-        ("key", name(told.key)),
-        ("key_number", key_number(told.key)),
-        ("camelot", camelot(told.key)),
-        ("dsp_key", name(told.dsp_key)),
-        ("dsp_key_number", key_number(told.dsp_key)),
-        ("confidence", number(told.confidence)),
-        ("alternate", name(alternate)),
-        ("alternate_number", key_number(alternate)),
-        ("alternate_camelot", camelot(alternate)),
-        ("coverage", or_null(told.alternate, |other| number(other.coverage))),
+    ];
+    let behind = vec![
         ("chroma", list(told.chroma.iter().map(|&x| number(x)), ", ")),
         ("loud_frames", told.loud_frame_count.to_string()),
         ("estimates", told.estimate_count.to_string()),
         ("segments", list(told.segments.iter().map(segment), layout.between_segments())),
     ];
-    object(&fields, layout.between_fields())
+    let keys = keys(told.key, told.dsp_key, confidence, other, coverage);
+    object(&[before, keys, behind].concat(), layout.between_fields())
+}
+
+/// The object of a card, refused or not.
+pub fn card(file: &str, read: &Result<Card, Refusal>, layout: Layout) -> String {
+    let card = read.as_ref().ok();
+    let (key, dsp_key, alternate) =
+        (card.and_then(Card::key), card.and_then(Card::dsp_key), card.and_then(Card::alternate));
+    let confidence = ("confidence_thousandths", or_null(card, |card| card.confidence().to_string()));
+    let coverage = ("coverage_thousandths", or_null(alternate, |other| other.coverage.to_string()));
+    let segments = card.map_or(&[][..], Card::segments).iter().map(card_segment);
+    let before = vec![
+        ("version", VERSION.to_string()),
+        ("file", string(file)),
+        ("refusal", or_null(read.as_ref().err(), |why| why.number().to_string())),
+        ("duration_ms", or_null(card, |card| card.duration_ms().to_string())),
+    ];
+    let keys = keys(key, dsp_key, confidence, alternate.map(|other| other.key), coverage);
+    let behind = vec![("segments", list(segments, layout.between_segments()))];
+    object(&[before, keys, behind].concat(), layout.between_fields())
 }

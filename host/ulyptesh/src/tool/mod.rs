@@ -1,5 +1,6 @@
 //! The commands of the tool, a module per topic.
 mod asked;
+mod cards;
 mod containers;
 mod demo;
 mod desk;
@@ -36,7 +37,7 @@ struct Command {
 
 const NOTATION: &[Known] = &[with_word("--notation")];
 
-const COMMANDS: [Command; 5] = [
+const COMMANDS: [Command; 6] = [
     Command {
         name: "analyse",
         options: &[&settings::OPTIONS, &asked::OPTIONS],
@@ -49,6 +50,7 @@ const COMMANDS: [Command; 5] = [
         help: &[help::KEY_AT, help::SETTINGS],
         run: tracks::key_at,
     },
+    Command { name: "card", options: &[&cards::OPTIONS], help: &[help::CARD], run: cards::run },
     Command { name: "key", options: &[NOTATION], help: &[help::KEY], run: key_of_words },
     Command { name: "key-name", options: &[NOTATION], help: &[help::KEY_NAME], run: name_of_word },
     Command { name: "demo", options: &[&demo::OPTIONS], help: &[help::DEMO], run: demo::run },
@@ -96,8 +98,8 @@ fn command(name: &OsStr) -> Result<&'static Command, Failure> {
 
 /// All that the tool says of itself.
 fn whole_help() -> String {
-    let parts = [help::INTRODUCTION, help::ANALYSE, help::SETTINGS, help::KEY_AT, help::KEY, help::KEY_NAME];
-    [&parts[..], &[help::DEMO, help::ENDING]].concat().join("\n")
+    let of_tracks = [help::INTRODUCTION, help::ANALYSE, help::SETTINGS, help::KEY_AT];
+    [&of_tracks[..], &[help::CARD, help::KEY, help::KEY_NAME, help::DEMO, help::ENDING]].concat().join("\n")
 }
 
 fn is_help(word: &OsString) -> bool {

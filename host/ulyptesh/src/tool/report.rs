@@ -1,4 +1,5 @@
-//! What is told while tracks are analysed, by any number of threads: answers, failures, and how far the work is.
+//! What is told while tracks are analysed, by any number of threads, or cards are read: answers, failures, and how
+//! far the work is.
 use super::asked::Form;
 use super::failure::{Failure, refused, shown, tell};
 use super::print;
@@ -69,7 +70,7 @@ impl Report {
         self.note(&mut state, file, failure);
     }
 
-    /// A track that is answered, and whose files could not be put into their places.
+    /// A track that is answered, and whose files could not be put into their places; a card that is shown as refused.
     pub fn fail_late(&self, file: &OsStr, failure: Failure) {
         self.note(&mut self.state(), file, failure);
     }
