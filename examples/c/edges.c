@@ -91,12 +91,18 @@ static int no_slices(void)
     ulyptesh_key(&found, NULL, 0);
     UlypteshWritten card = ulyptesh_write_card(ULYPTESH_NO_KEY, ULYPTESH_NO_KEY, ULYPTESH_NO_KEY, 0.0f, 0.0f,
                                                NULL, 0, NULL, 0, NULL, 0, NULL, 0, NULL, 0);
+    UlypteshWritten packed = ulyptesh_write_packed_card(ULYPTESH_NO_KEY, ULYPTESH_NO_KEY, ULYPTESH_NO_KEY, 0, 0,
+                                                        NULL, 0, NULL, 0, NULL, 0, NULL, 0, NULL, 0);
+    UlypteshCardRead read;
+    ulyptesh_read_card(&read, NULL, 0, NULL, 0, NULL, 0, NULL, 0, NULL, 0);
     return HOLDS(told.refusal == ULYPTESH_DONE && told.key == ULYPTESH_NO_KEY && told.segments == 0)
         && HOLDS(frames.refusal == ULYPTESH_DONE && frames.count == 0)
         && HOLDS(found.refusal == ULYPTESH_WRONG_LENGTH && found.key == ULYPTESH_NO_KEY)
         && HOLDS(ulyptesh_scores(NULL, 0, NULL, 0).refusal == ULYPTESH_WRONG_LENGTH)
         && HOLDS(ulyptesh_write_key_name(0, NULL, 0).refusal == ULYPTESH_TOO_FEW_BYTES)
-        && HOLDS(card.refusal == ULYPTESH_TOO_FEW_BYTES && card.length == 0);
+        && HOLDS(card.refusal == ULYPTESH_TOO_FEW_BYTES && card.length == 0)
+        && HOLDS(packed.refusal == ULYPTESH_TOO_FEW_BYTES && packed.length == 0)
+        && HOLDS(read.refusal == ULYPTESH_CARD_WRONG_LENGTH && read.key == ULYPTESH_NO_KEY && read.segments == 0);
 }
 
 /* A note above the rate has no rows in a sheet, so all slices of its sheet but the window are of no entries. */
@@ -171,6 +177,116 @@ static int no_score(void)
     ulyptesh_key(&found, chroma, ULYPTESH_PITCH_CLASSES);
     return HOLDS(found.refusal == ULYPTESH_DONE && found.key == 0) && HOLDS(isnan(found.confidence))
         && HOLDS(found.best == -INFINITY && found.second == -INFINITY);
+}
+
+/* Cards: rows o and p of the request, a lone segment of three minutes in A minor and none at all */
+
+#define ROW_O {0x1A, 0xD7, 0x00, 0x03, 0xE8, 0x00, 0x81, 0x5F, 0x90, 0x55, 0xF4}
+#define ROW_P {0x1C, 0x63, 0x00, 0x00, 0x00, 0x00, 0x00}
+
+static const uint8_t ONE[ULYPTESH_CARD_BYTES(1)] = ROW_O;
+static const uint8_t NONE[ULYPTESH_CARD_BYTES(0)] = ROW_P;
+
+/* Two rows, all 9 before a card is read. */
+typedef struct CardRows {
+    uint32_t starts[2], ends[2];
+    uint8_t keys[2];
+    uint16_t confidences[2];
+} CardRows;
+
+static const CardRows NINES = {{9, 9}, {9, 9}, {9, 9}, {9, 9}};
+
+static int same_rows(const CardRows *one, const CardRows *other)
+{
+    int same = 1;
+    for (size_t at = 0; at < 2; at++)
+        same = same && one->starts[at] == other->starts[at] && one->ends[at] == other->ends[at]
+            && one->keys[at] == other->keys[at] && one->confidences[at] == other->confidences[at];
+    return same;
+}
+
+/* Whether bytes are refused so, over so many rows of each kind, with keys 24, zeros and no row changed. */
+static int card_refused(uint32_t refusal, const uint8_t *bytes, size_t count, const size_t lent[4])
+{
+    CardRows rows = NINES;
+    UlypteshCardRead told;
+    UlypteshCardRead *answer = ulyptesh_read_card(&told, bytes, count, rows.starts, lent[0], rows.ends, lent[1],
+                                                  rows.keys, lent[2], rows.confidences, lent[3]);
+    return HOLDS(answer == &told) && HOLDS(told.refusal == refusal) && HOLDS(same_rows(&rows, &NINES))
+        && HOLDS(told.key == ULYPTESH_NO_KEY && told.dsp_key == ULYPTESH_NO_KEY && told.alternate == ULYPTESH_NO_KEY)
+        && HOLDS(told.coverage == 0 && told.confidence == 0 && told.segments == 0);
+}
+
+/* A card with each thing wrong; a row too few is told last. */
+static int cards_refused(void)
+{
+    static const size_t ENOUGH[4] = {2, 2, 2, 2}, FEW[5][4] = {
+        {0, 1, 1, 1}, {1, 0, 1, 1}, {1, 1, 0, 1}, {1, 1, 1, 0}, {0, 0, 0, 0}};
+    uint8_t longer[sizeof ONE + 1] = ROW_O, layout[] = ROW_P, rule[] = ROW_O, filler[] = ROW_P;
+    layout[0] ^= 0x30;
+    rule[2] ^= 0x20;
+    filler[6] ^= 0x01;
+    int done = card_refused(ULYPTESH_CARD_WRONG_LENGTH, NONE, sizeof NONE - 1, ENOUGH)
+        && card_refused(ULYPTESH_CARD_WRONG_LENGTH, ONE, sizeof ONE - 1, ENOUGH)
+        && card_refused(ULYPTESH_CARD_WRONG_LENGTH, longer, sizeof longer, ENOUGH)
+        && card_refused(ULYPTESH_CARD_UNKNOWN_LAYOUT, layout, sizeof layout, ENOUGH)
+        && card_refused(ULYPTESH_CARD_BROKEN, rule, sizeof rule, ENOUGH)
+        && card_refused(ULYPTESH_CARD_BROKEN, filler, sizeof filler, ENOUGH)
+        && card_refused(ULYPTESH_CARD_BROKEN, rule, sizeof rule, FEW[0]);
+    for (size_t at = 0; at < sizeof FEW / sizeof *FEW; at++)
+        done = done && card_refused(ULYPTESH_TOO_FEW_CARD_ROWS, ONE, sizeof ONE, FEW[at]);
+    return done;
+}
+
+/* Row o over two rows, of which the second stays; row p over none. */
+static int cards_read(void)
+{
+    static const CardRows EXPECTED = {{0, 9}, {180000, 9}, {21, 9}, {500, 9}};
+    CardRows rows = NINES;
+    UlypteshCardRead one, none;
+    ulyptesh_read_card(&one, ONE, sizeof ONE, rows.starts, 2, rows.ends, 2, rows.keys, 2, rows.confidences, 2);
+    ulyptesh_read_card(&none, NONE, sizeof NONE, NULL, 0, NULL, 0, NULL, 0, NULL, 0);
+    return HOLDS(one.refusal == ULYPTESH_DONE && one.segments == 1 && same_rows(&rows, &EXPECTED))
+        && HOLDS(one.key == 21 && one.dsp_key == 21 && one.alternate == ULYPTESH_NO_KEY)
+        && HOLDS(one.coverage == 0 && one.confidence == 500)
+        && HOLDS(none.refusal == ULYPTESH_DONE && none.segments == 0 && none.confidence == 0)
+        && HOLDS(none.key == ULYPTESH_NO_KEY && none.dsp_key == ULYPTESH_NO_KEY);
+}
+
+/* Row o written with this key and confidence, from this start, with so many keys into so many bytes, each 9 before. */
+static UlypteshWritten pack_one(uint32_t key, uint32_t confidence, uint32_t start, size_t keys, uint8_t *bytes,
+                                size_t room)
+{
+    static const uint32_t ENDS[] = {180000};
+    static const uint8_t KEYS[] = {21, 21};
+    static const uint16_t CONFIDENCES[] = {500};
+    memset(bytes, 9, sizeof ONE + 1);
+    return ulyptesh_write_packed_card(key, 21, ULYPTESH_NO_KEY, 0, confidence, &start, 1, ENDS, 1, KEYS, keys,
+                                      CONFIDENCES, 1, bytes, room);
+}
+
+/* Whether such a card is refused so, with no byte changed. */
+static int packed_refused(uint32_t refusal, uint32_t key, uint32_t confidence, uint32_t start, size_t keys, size_t room)
+{
+    uint8_t bytes[sizeof ONE + 1], nines[sizeof ONE + 1];
+    UlypteshWritten written = pack_one(key, confidence, start, keys, bytes, room);
+    memset(nines, 9, sizeof nines);
+    return HOLDS(written.refusal == refusal && written.length == 0) && HOLDS(memcmp(bytes, nines, sizeof nines) == 0);
+}
+
+/* Row o from its numbers; numbers that would be cut, another start, lists of other lengths, and a byte too few. */
+static int cards_written(void)
+{
+    uint8_t bytes[sizeof ONE + 1];
+    UlypteshWritten written = pack_one(21, 500, 0, 1, bytes, sizeof bytes);
+    return HOLDS(written.refusal == ULYPTESH_DONE && written.length == sizeof ONE)
+        && HOLDS(memcmp(bytes, ONE, sizeof ONE) == 0 && bytes[sizeof ONE] == 9)
+        && packed_refused(ULYPTESH_UNWRITABLE, 21 + 32, 500, 0, 1, sizeof ONE)
+        && packed_refused(ULYPTESH_UNWRITABLE, 21, 500 + 65536, 0, 1, sizeof ONE)
+        && packed_refused(ULYPTESH_UNWRITABLE, 21, 500, 1, 1, sizeof ONE)
+        && packed_refused(ULYPTESH_UNWRITABLE, 21, 500, 0, 2, sizeof ONE)
+        && packed_refused(ULYPTESH_UNWRITABLE, 21, 500, 0, 0, 0)
+        && packed_refused(ULYPTESH_TOO_FEW_BYTES, 21, 500, 0, 1, sizeof ONE - 1);
 }
 
 /* Whether settings are refused so, with nothing made. */
@@ -286,6 +402,9 @@ static const struct {
     {"other-sheet", other_sheet},
     {"relative-key", relative_key},
     {"no-score", no_score},
+    {"cards-read", cards_read},
+    {"cards-refused", cards_refused},
+    {"cards-written", cards_written},
     {"settings-refused", settings_refused},
     {"tracks-in-turn", tracks_in_turn},
     {"no-memory", no_memory},

@@ -432,6 +432,10 @@ const char *ulyptesh_easy_words(uint32_t status)
     case ULYPTESH_UNWRITABLE: return "no key has this number, or no card can be written";
     case ULYPTESH_TOO_FEW_BYTES: return "more bytes are needed";
     case ULYPTESH_WRONG_LENGTH: return "a chroma has 12 numbers, and 24 scores";
+    case ULYPTESH_CARD_WRONG_LENGTH: return "the card is too short, or not as long as its segment count gives";
+    case ULYPTESH_CARD_UNKNOWN_LAYOUT: return "the card's layout is not known";
+    case ULYPTESH_CARD_BROKEN: return "the card breaks a card rule, or a bit behind its last field is set";
+    case ULYPTESH_TOO_FEW_CARD_ROWS: return "the card needs more segment rows";
     case ULYPTESH_EASY_NO_MEMORY: return "too little memory";
     case ULYPTESH_EASY_OTHER_LIBRARY: return "the library has another interface than its header";
     case ULYPTESH_EASY_NOTHING_ANALYSED: return "by these settings no track is analysed";
