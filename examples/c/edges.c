@@ -217,7 +217,7 @@ static int card_refused(uint32_t refusal, const uint8_t *bytes, size_t count, co
         && HOLDS(told.coverage == 0 && told.confidence == 0 && told.segments == 0);
 }
 
-/* A card with each thing wrong; a row too few is told last. */
+/* A card with each thing wrong; of two the first by number is told. */
 static int cards_refused(void)
 {
     static const size_t ENOUGH[4] = {2, 2, 2, 2}, FEW[5][4] = {
@@ -227,6 +227,7 @@ static int cards_refused(void)
     rule[2] ^= 0x20;
     filler[6] ^= 0x01;
     int done = card_refused(ULYPTESH_CARD_WRONG_LENGTH, NONE, sizeof NONE - 1, ENOUGH)
+        && card_refused(ULYPTESH_CARD_WRONG_LENGTH, layout, sizeof layout - 1, ENOUGH)
         && card_refused(ULYPTESH_CARD_WRONG_LENGTH, ONE, sizeof ONE - 1, ENOUGH)
         && card_refused(ULYPTESH_CARD_WRONG_LENGTH, longer, sizeof longer, ENOUGH)
         && card_refused(ULYPTESH_CARD_UNKNOWN_LAYOUT, layout, sizeof layout, ENOUGH)

@@ -317,7 +317,7 @@ mod tests {
         let (alternate, filler) = (with_bit(ROW_O.to_vec(), 18), with_bit(ROW_P.to_vec(), 55));
         let cases: [(&[u8], &str); 8] = [
             (&[], "a card has at least 7 bytes, and there are 0 (refusal 20)"),
-            (&ROW_P[..6], "a card has at least 7 bytes, and there are 6 (refusal 20)"),
+            (&[0x20; 6], "a card has at least 7 bytes, and there are 6 (refusal 20)"),
             (&ROW_O[..10], "10 bytes are not as many as the card's segment count gives (refusal 20)"),
             (&longer[..12], "12 bytes are not as many as the card's segment count gives (refusal 20)"),
             (&longer, "a card has at most 4994 bytes, and there are more (refusal 20)"),

@@ -218,3 +218,18 @@ impl fmt::Display for Refusal {
 }
 
 impl Error for Refusal {}
+
+#[cfg(test)]
+mod tests {
+    use super::*;
+
+    #[test]
+    fn refusals_of_cards_tell_their_number() {
+        for number in [CARD_WRONG_LENGTH, CARD_UNKNOWN_LAYOUT, CARD_BROKEN, TOO_FEW_CARD_ROWS, 23] {
+            let refusal = Refusal::of_card(number, &[0x30; SHORTEST_CARD]);
+            assert_eq!(refusal.number(), number);
+            assert!(refusal.to_string().ends_with(&format!(" (refusal {number})")), "{refusal}");
+            assert_eq!(matches!(refusal, Refusal::Unknown { .. }), number == 23);
+        }
+    }
+}
