@@ -7,7 +7,7 @@ use ulyptesh::calls::{CardFields, NO_KEY};
 pub const MOST_SEGMENTS: usize = 1_023;
 
 /// The last end of a card, in milliseconds.
-const LAST_END: u64 = 1000 * LONGEST;
+pub const LAST_END: u64 = 1000 * LONGEST;
 
 /// An analysis that owns its lists, and how many bytes are lent for its card.
 #[derive(Debug, Clone)]

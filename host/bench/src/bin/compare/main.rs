@@ -10,6 +10,11 @@ mod analysis_left;
 mod analyzers;
 #[cfg(oracle)]
 mod block_tracks;
+mod card_breaches;
+mod card_calls;
+mod card_model;
+mod card_random;
+mod card_reads;
 mod cards;
 mod chroma_calls;
 #[cfg(oracle)]
@@ -38,6 +43,7 @@ mod medians;
 mod numbers;
 mod orders;
 mod packed;
+mod packed_cards;
 mod refusals;
 mod rows;
 #[cfg(oracle)]
@@ -108,7 +114,7 @@ macro_rules! beside_oracle {
     };
 }
 
-const TOPICS: [Topic; 30] = [
+const TOPICS: [Topic; 32] = [
     alone!(numbers),
     alone!(orders),
     alone!(key_names),
@@ -118,6 +124,8 @@ const TOPICS: [Topic; 30] = [
     alone!(medians),
     alone!(packed),
     alone!(cards),
+    alone!(card_reads),
+    alone!(packed_cards),
     alone!(sheets),
     beside_oracle!(filters),
     alone!(refusals),
