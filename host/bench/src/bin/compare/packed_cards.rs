@@ -150,7 +150,10 @@ const SPOILINGS: [Spoiling; 15] = [
             writing.rows.confidences[at] |= 1 << (SEGMENT[2] as usize + dice.below(6));
         },
     },
-    Spoiling { what: "the first start not 0", spoils: |writing, dice| writing.rows.starts[0] = dice.one_of(&[1, 2, u32::MAX]) },
+    Spoiling {
+        what: "the first start not 0",
+        spoils: |writing, dice| writing.rows.starts[0] = dice.one_of(&[1, 2, u32::MAX]),
+    },
     Spoiling {
         what: "a start after the end before",
         spoils: |writing, dice| {
@@ -168,7 +171,7 @@ const SPOILINGS: [Spoiling; 15] = [
     Spoiling {
         what: "slices of unequal length, one shorter",
         spoils: |writing, dice| {
-            let (rows, left) = (&mut writing.rows, dice.below(writing.rows.ends.len()));
+            let (left, rows) = (place(writing, dice), &mut writing.rows);
             match dice.below(4) {
                 0 => rows.starts.truncate(left),
                 1 => rows.ends.truncate(left),
