@@ -15,6 +15,20 @@ pub struct CardRead {
     pub segments: u64,
 }
 
+/// What a packed card is written from: times in milliseconds, confidences and the coverage in thousandths.
+#[derive(Debug, Clone, Copy)]
+pub struct PackedFields<'a> {
+    pub key: u32,
+    pub dsp_key: u32,
+    pub alternate: u32,
+    pub coverage: u32,
+    pub confidence: u32,
+    pub starts: &'a [u32],
+    pub ends: &'a [u32],
+    pub keys: &'a [u8],
+    pub confidences: &'a [u16],
+}
+
 unsafe extern "C" {
     fn ulyptesh_read_card(
         answer: *mut CardRead,
@@ -78,36 +92,24 @@ pub fn read_card(
     }
 }
 
-/// Writes a card from packed numbers to the front of the bytes; those behind it stay.
-#[expect(clippy::too_many_arguments)]
-pub fn write_packed_card(
-    key: u32,
-    dsp_key: u32,
-    alternate: u32,
-    coverage: u32,
-    confidence: u32,
-    starts: &[u32],
-    ends: &[u32],
-    keys: &[u8],
-    confidences: &[u16],
-    bytes: &mut [u8],
-) -> Written {
+/// Writes a card of packed numbers to the front of the bytes; those behind it stay.
+pub fn write_packed_card(told: &PackedFields<'_>, bytes: &mut [u8]) -> Written {
     // SAFETY: each pointer and count are one slice, which outlives the call; the bytes are exclusive.
     unsafe {
         ulyptesh_write_packed_card(
-            key,
-            dsp_key,
-            alternate,
-            coverage,
-            confidence,
-            starts.as_ptr(),
-            starts.len(),
-            ends.as_ptr(),
-            ends.len(),
-            keys.as_ptr(),
-            keys.len(),
-            confidences.as_ptr(),
-            confidences.len(),
+            told.key,
+            told.dsp_key,
+            told.alternate,
+            told.coverage,
+            told.confidence,
+            told.starts.as_ptr(),
+            told.starts.len(),
+            told.ends.as_ptr(),
+            told.ends.len(),
+            told.keys.as_ptr(),
+            told.keys.len(),
+            told.confidences.as_ptr(),
+            told.confidences.len(),
             bytes.as_mut_ptr(),
             bytes.len(),
         )

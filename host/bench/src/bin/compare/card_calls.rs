@@ -2,7 +2,7 @@
 use crate::card_model::{Meaning, Segment, TOO_FEW_ROWS};
 use crate::cards;
 use crate::groups::{Compared, compared_as_shown};
-use bench::calls::{CardRead, read_card, write_packed_card};
+use bench::calls::{CardRead, PackedFields, read_card, write_packed_card};
 
 /// Rows behind those that are lent.
 const BEYOND: usize = 2;
@@ -233,25 +233,22 @@ impl Writing {
         self.said()?.card()
     }
 
+    pub fn as_lent(&self) -> PackedFields<'_> {
+        PackedFields {
+            key: self.key,
+            dsp_key: self.dsp_key,
+            alternate: self.alternate,
+            coverage: self.coverage,
+            confidence: self.confidence,
+            starts: &self.rows.starts,
+            ends: &self.rows.ends,
+            keys: &self.rows.keys,
+            confidences: &self.rows.confidences,
+        }
+    }
+
     pub fn ours(&self) -> cards::Left {
-        let Self { key, dsp_key, alternate, coverage, confidence, rows, lent } = self;
-        let Rows { starts, ends, keys, confidences } = rows;
-        cards::Left::by(*lent, |bytes| {
-            let (key, dsp_key, alternate) = (*key, *dsp_key, *alternate);
-            let (coverage, confidence) = (*coverage, *confidence);
-            write_packed_card(
-                key,
-                dsp_key,
-                alternate,
-                coverage,
-                confidence,
-                starts,
-                ends,
-                keys,
-                confidences,
-                bytes,
-            )
-        })
+        cards::Left::by(self.lent, |bytes| write_packed_card(&self.as_lent(), bytes))
     }
 
     pub fn theirs(&self) -> cards::Left {

@@ -2,11 +2,11 @@
 use crate::analyses::{LAST_END, MOST_SEGMENTS, Told};
 use crate::card_breaches::{BREACHES, broken, good};
 use crate::card_calls::{Read, Reading};
-use crate::card_model::{HEADER, MISSING, Meaning, Segment, WHOLE, length_of};
+use crate::card_model::{HEADER, MISSING, Meaning, Segment, WHOLE};
 use crate::card_random::compare_random;
+use crate::card_rounds;
 use crate::cards::{self, of_every_count, of_few_segments};
 use crate::groups::Groups;
-use ulyptesh::calls::write_card;
 
 /// Streams of the seed from here on, of the cards and of the broken ones.
 const STREAM: u64 = 200_000;
@@ -29,28 +29,9 @@ const MORE: [usize; 4] = [1, 0, 3, 2];
 pub const ROW_O: [u8; 11] = [0x1a, 0xd7, 0x00, 0x03, 0xe8, 0x00, 0x81, 0x5f, 0x90, 0x55, 0xf4];
 pub const ROW_P: [u8; 7] = [0x1c, 0x63, 0, 0, 0, 0, 0];
 
-/// A card's numbers, then what is read of it and what is written again.
-type Again = (cards::Left, (Read, cards::Left));
-
-/// The library writes, reads, and writes what it read.
-fn again(told: &Told) -> Again {
-    let lent = length_of(told.ends.len());
-    let written = cards::Left::by(lent, |bytes| write_card(&told.as_lent(), bytes));
-    let read = Reading::new(written.card().to_vec(), told.ends.len(), [0; 4]).ours();
-    let again = read.to_write(lent).ours();
-    (written, (read, again))
-}
-
-fn their_again(told: &Told) -> Again {
-    let said = Meaning::of_analysis(told).expect("an analysis that a card holds");
-    let card = said.card().expect("an analysis that a card holds");
-    let written = || cards::Left::wanted(card.len(), Some(card.clone()));
-    (written(), (Read::wanted(&said, card.clone()), written()))
-}
-
 fn compare_again(groups: &mut Groups, name: &str, told: impl Iterator<Item = Told>) {
     let name = format!("cards read and written again, {name}");
-    groups.group(&name, told, |told| again(&told), |told| their_again(&told));
+    groups.group(&name, told, |told| card_rounds::ours(&told), |told| card_rounds::theirs(&told));
 }
 
 fn compare_readings(groups: &mut Groups, name: &str, count: usize, nth: impl Fn(usize) -> Reading + Sync) {

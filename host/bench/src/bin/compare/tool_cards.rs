@@ -1,0 +1,241 @@
+//! The tool's `card`: text as the lister has it, and JSON, beside the request's words; refused cards are shown, and told
+//! in a message and by the exit status.
+use crate::card_breaches::{BREACHES, broken, good};
+use crate::card_model::{MISSING, Meaning, Segment, listing};
+use crate::card_reads::{ROW_O, ROW_P, largest};
+use crate::groups::{Groups, compared_as_shown};
+use crate::json::Json;
+use crate::key_names::{CAMELOT, name};
+use crate::lister::{endless_fronts, endless_listing, no_cards};
+use crate::tool_runs::{Folder, output_on, output_on_endless, text};
+use std::process::Output;
+
+/// Streams of the seed from here on.
+const STREAM: u64 = 270_000;
+
+/// How a run ended, what it printed, and what its messages have to begin with and to say.
+#[derive(Debug, PartialEq)]
+struct Shown {
+    status: Option<i32>,
+    printed: String,
+    says: Vec<bool>,
+}
+
+compared_as_shown!(Shown);
+
+/// A refusal's number stands in the message.
+fn told(refusal: u32) -> String {
+    format!("(refusal {refusal})")
+}
+
+fn refusal(bytes: &[u8]) -> Option<u32> {
+    Meaning::read(bytes).err()
+}
+
+/// Each message by its line: whether it begins and goes on as it has to; no more lines.
+fn shown(ended: &Output, messages: &[(String, String)]) -> Shown {
+    let said = text(&ended.stderr);
+    let begins = |(line, (first, then)): (&str, &(String, String))| {
+        line.starts_with(&format!("ulyptesh: {first}")) && line.contains(then)
+    };
+    let mut says: Vec<bool> = said.lines().zip(messages).map(begins).collect();
+    says.push(said.lines().count() == messages.len());
+    Shown { status: ended.status.code(), printed: text(&ended.stdout), says }
+}
+
+fn wanted(printed: String, messages: usize) -> Shown {
+    Shown { status: Some(i32::from(messages > 0)), printed, says: vec![true; messages + 1] }
+}
+
+/// The message about a lone file, where there is one.
+fn message(file: &str, bytes: &[u8]) -> Vec<(String, String)> {
+    refusal(bytes).map(|refusal| (format!("{file}: "), told(refusal))).into_iter().collect()
+}
+
+/// Cards and no cards.
+fn files(seed: u64) -> Vec<Vec<u8>> {
+    let counts = (0..30).chain([300, 1_023]).zip(STREAM..);
+    let whole = counts.map(|(count, stream)| good(seed, stream, count).joined());
+    let breached =
+        BREACHES.iter().zip(STREAM..).map(|(breach, stream)| broken(seed, stream, breach).0.joined());
+    whole
+        .chain([ROW_O.to_vec(), ROW_P.to_vec(), largest().joined()])
+        .chain(breached)
+        .chain(no_cards())
+        .collect()
+}
+
+/// As a file, and by standard input.
+fn compare_text(groups: &mut Groups, files: &[Vec<u8>]) {
+    let folder = Folder::new("tool-cards");
+    let as_file = |bytes: Vec<u8>| {
+        folder.put("card", &bytes);
+        shown(&folder.run(&["card", "card"]), &message("card", &bytes))
+    };
+    let by_input = |bytes: Vec<u8>| {
+        let ended = output_on(folder.command(&["card", "-"]), [&bytes[..]]);
+        shown(&ended, &message("-", &bytes))
+    };
+    let listed = |bytes: Vec<u8>| wanted(listing(&bytes), message("", &bytes).len());
+    groups.group("the tool's cards as text", files.iter().cloned(), as_file, listed);
+    groups.group("the tool's cards by standard input", files.iter().cloned(), by_input, listed);
+}
+
+/// Inputs that never end, by a pipe and as a file.
+fn compare_endless(groups: &mut Groups) {
+    let folder = Folder::new("tool-cards");
+    let by_pipe = |front: Vec<u8>| {
+        let ended = output_on_endless(folder.command(&["card", "-"]), &front)?;
+        Some((ended.status.code() == Some(1), text(&ended.stdout)))
+    };
+    let refused = |front: Vec<u8>| Some((true, endless_listing(&front)));
+    groups.group("the tool's cards on endless input", endless_fronts().into_iter(), by_pipe, refused);
+    let zeros = |file: String| shown(&folder.run(&["card", &file]), &message(&file, &[0; 7]));
+    let names = ["/dev/zero".to_string()];
+    groups.group("the tool's cards on an endless file", names.into_iter(), zeros, |_| {
+        wanted(endless_listing(&[]), 1)
+    });
+}
+
+fn file_name(nth: usize) -> String {
+    format!("{nth}.card")
+}
+
+/// All files in one run, with one that is not there: each under its name, and the failed ones told and counted.
+fn in_one_run(folder: &Folder, files: &[Vec<u8>]) -> Shown {
+    let mut words = vec!["card".to_string(), "missing".into()];
+    words.extend((0..files.len()).map(file_name));
+    let mut messages = vec![("missing: ".to_string(), String::new())];
+    messages.extend(files.iter().enumerate().flat_map(|(nth, bytes)| message(&file_name(nth), bytes)));
+    messages.push((format!("{} of {} failed: missing", messages.len(), files.len() + 1), String::new()));
+    shown(&folder.run(&words), &messages)
+}
+
+fn each_under_its_name(files: &[Vec<u8>]) -> Shown {
+    let printed =
+        files.iter().enumerate().map(|(nth, bytes)| format!("{}:\n{}", file_name(nth), listing(bytes)));
+    let refused = files.iter().filter(|bytes| refusal(bytes).is_some()).count();
+    wanted(printed.collect(), refused + 2)
+}
+
+fn compare_many(groups: &mut Groups, files: &[Vec<u8>]) {
+    let folder = Folder::new("tool-cards");
+    files.iter().enumerate().for_each(|(nth, bytes)| folder.put(&file_name(nth), bytes));
+    groups.group(
+        "many of the tool's cards in one run",
+        [2, 3, files.len()].into_iter(),
+        |count| in_one_run(&folder, &files[..count]),
+        |count| each_under_its_name(&files[..count]),
+    );
+}
+
+fn number(number: u64) -> Json {
+    Json::Number(number.to_string())
+}
+
+/// A key's name, number and code, or nulls.
+fn key_fields(prefix: &str, names: [&str; 3], key: u64) -> Vec<(String, Json)> {
+    let values = match name(key as u32) {
+        Some(name) => [Json::Text(name), number(key), Json::Text(CAMELOT[key as usize].into())],
+        None => [Json::Null, Json::Null, Json::Null],
+    };
+    names.iter().map(|name| format!("{prefix}{name}")).zip(values).collect()
+}
+
+fn field(name: &str, value: Json) -> Vec<(String, Json)> {
+    vec![(name.into(), value)]
+}
+
+fn segment_object((start, part): (u64, &Segment)) -> Json {
+    Json::Object(
+        [
+            field("start_ms", number(start)),
+            field("end_ms", number(part.end)),
+            key_fields("", ["key", "key_number", "camelot"], part.key),
+            field("confidence_thousandths", number(part.confidence)),
+        ]
+        .concat(),
+    )
+}
+
+/// The object of a card, as docs/JSON.md has it.
+fn object(file: &str, bytes: &[u8]) -> Json {
+    let (said, refusal) = match Meaning::read(bytes) {
+        Ok(said) => (said, Json::Null),
+        Err(refusal) => (Meaning::empty(), number(refusal.into())),
+    };
+    let or_null = |value: u64, there: bool| if there { number(value) } else { Json::Null };
+    let (is_card, last) = (refusal == Json::Null, said.segments.last().map_or(0, |last| last.end));
+    let (key, dsp_key) = (["key", "key_number", "camelot"], ["key", "key_number"]);
+    let dsp_fields = key_fields("dsp_", ["key", "key_number", ""], said.dsp_key);
+    let segments = said.starts().zip(&said.segments).map(segment_object).collect();
+    Json::Object(
+        [
+            field("version", number(1)),
+            field("file", Json::Text(file.into())),
+            field("refusal", refusal),
+            field("duration_ms", or_null(last, is_card)),
+            key_fields("", key, said.key),
+            dsp_fields[..dsp_key.len()].to_vec(),
+            field("confidence_thousandths", or_null(said.confidence, is_card)),
+            key_fields("alternate", ["", "_number", "_camelot"], said.alternate),
+            field("coverage_thousandths", or_null(said.coverage, said.alternate != MISSING)),
+            field("segments", Json::List(segments)),
+        ]
+        .concat(),
+    )
+}
+
+/// The objects of a run, in an array or line by line; none where something else is printed.
+fn objects(printed: &str, form: &str) -> Option<Vec<Json>> {
+    match form {
+        "--json" => Json::read(printed)?.list().map(<[Json]>::to_vec),
+        _ => printed.lines().map(Json::read).collect(),
+    }
+}
+
+compared_as_shown!(Json);
+
+fn compare_json(groups: &mut Groups, files: &[Vec<u8>]) {
+    let folder = Folder::new("tool-cards");
+    files.iter().enumerate().for_each(|(nth, bytes)| folder.put(&file_name(nth), bytes));
+    let forms = ["--json", "--json-lines"];
+    let ours = |nth: usize| {
+        let words =
+            ["card".to_string(), forms[nth].into()].into_iter().chain((0..files.len()).map(file_name));
+        let ended = folder.run(&words.collect::<Vec<_>>());
+        objects(&text(&ended.stdout), forms[nth])
+    };
+    let wanted =
+        |_| Some(files.iter().enumerate().map(|(nth, bytes)| object(&file_name(nth), bytes)).collect());
+    groups.group("the tool's cards as JSON", 0..forms.len(), ours, wanted);
+}
+
+/// From samples to a card, and from the card to what it says.
+fn compare_written(groups: &mut Groups) {
+    let folder = Folder::new("tool-cards");
+    let tone: Vec<f32> = (0..16_000).map(|place| (place as f32 * 0.2).sin()).collect();
+    folder.put_samples("tone", &tone);
+    folder.put_samples("silence", &[0.0; 16_000]);
+    let tracks = ["tone", "silence"];
+    let written = |nth: usize| {
+        let words = ["analyse", tracks[nth], "--rate", "8000", "--card", "new"];
+        assert!(folder.run(&words).status.success(), "a track that is analysed");
+        folder.read("new").expect("a card that was written")
+    };
+    let ours = |nth: usize| {
+        let bytes = written(nth);
+        shown(&folder.run(&["card", "new"]), &message("new", &bytes))
+    };
+    let listed = |nth: usize| wanted(listing(&written(nth)), 0);
+    groups.group("the tool's cards of analyses", 0..tracks.len(), ours, listed);
+}
+
+pub fn compare(groups: &mut Groups) {
+    let files = files(groups.seed);
+    compare_text(groups, &files);
+    compare_endless(groups);
+    compare_many(groups, &files);
+    compare_json(groups, &files);
+    compare_written(groups);
+}
