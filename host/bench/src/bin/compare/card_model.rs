@@ -47,20 +47,27 @@ pub struct Meaning {
     pub segments: Vec<Segment>,
 }
 
+/// Bits of a card with so many segments, without those that fill its last byte.
+pub fn bits_of(count: usize) -> usize {
+    HEADER.iter().sum::<u32>() as usize + count * SEGMENT.iter().sum::<u32>() as usize
+}
+
 /// Bytes of a card with so many segments.
 pub fn length_of(count: usize) -> usize {
-    let bits = HEADER.iter().sum::<u32>() as usize + count * SEGMENT.iter().sum::<u32>() as usize;
-    bits.div_ceil(8)
+    bits_of(count).div_ceil(8)
 }
 
 /// A byte's bits, most significant first, then the next one's.
-fn row_of(bytes: &[u8]) -> impl Iterator<Item = bool> {
-    bytes.iter().flat_map(|byte| (0..8).rev().map(move |place| byte >> place & 1 == 1))
+fn row_of(bytes: &[u8]) -> Vec<bool> {
+    bytes.iter().flat_map(|byte| [7, 6, 5, 4, 3, 2, 1, 0].map(|place| byte >> place & 1 == 1)).collect()
 }
 
-/// The numbers of so many bits each from the front of the row.
-fn cut<const N: usize>(row: &mut impl Iterator<Item = bool>, widths: [u32; N]) -> [u64; N] {
-    widths.map(|width| row.take(width as usize).fold(0, |number, bit| 2 * number + u64::from(bit)))
+/// The numbers of so many bits each, taken from the front of the row.
+fn cut<const N: usize>(row: &mut &[bool], widths: [u32; N]) -> [u64; N] {
+    widths.map(|width| {
+        let front = row.split_off(..width as usize).expect("as many bits as the length says");
+        front.iter().fold(0, |number, &bit| 2 * number + u64::from(bit))
+    })
 }
 
 /// The numbers at the end of the row, each in so many bits.
@@ -94,7 +101,8 @@ impl Meaning {
         if bytes.len() < SHORTEST {
             return Err(WRONG_LENGTH);
         }
-        let mut row = row_of(bytes);
+        let whole = row_of(bytes);
+        let mut row = &whole[..];
         let [layout, key, dsp_key, alternate, coverage, confidence, count] = cut(&mut row, HEADER);
         if layout != LAYOUT {
             return Err(UNKNOWN_LAYOUT);
@@ -108,7 +116,7 @@ impl Meaning {
         };
         let segments = (0..count).map(segment).collect();
         let said = Self { key, dsp_key, alternate, coverage, confidence, segments };
-        if said.keeps_rules() && row.all(|bit| !bit) { Ok(said) } else { Err(RULE_BROKEN) }
+        if said.keeps_rules() && row.iter().all(|bit| !bit) { Ok(said) } else { Err(RULE_BROKEN) }
     }
 
     /// Its numbers as a row of bits, in bytes, whether they keep the rules or not.

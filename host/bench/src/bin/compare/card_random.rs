@@ -1,7 +1,7 @@
 //! Random bytes read as cards, most of them mended so far that their length and layout are a card's.
 use crate::analyses::LAST_END;
 use crate::card_calls::Reading;
-use crate::card_model::{MISSING, Meaning, Segment, WHOLE};
+use crate::card_model::{HEADER, MISSING, Meaning, SEGMENT, Segment, WHOLE};
 use crate::groups::Groups;
 use bench::inputs::dice::Dice;
 
@@ -27,14 +27,13 @@ fn any_number(dice: &mut Dice, bits: u32) -> u64 {
 
 /// Any numbers that the fields hold.
 fn any_meaning(dice: &mut Dice) -> Meaning {
+    let [_, key, dsp_key, alternate, coverage, confidence, _] = HEADER.map(|bits| any_number(dice, bits));
     let count = dice.below(9);
-    let [key, dsp_key, alternate] = [0; 3].map(|_| any_number(dice, 5));
-    let [coverage, confidence] = [0; 2].map(|_| any_number(dice, 10));
-    let mut segment = |_| {
-        let [end, key, confidence] = [24, 5, 10].map(|bits| any_number(dice, bits));
+    let segment = |_| {
+        let [end, key, confidence] = SEGMENT.map(|bits| any_number(dice, bits));
         Segment { end, key, confidence }
     };
-    let segments = (0..count).map(&mut segment).collect();
+    let segments = (0..count).map(segment).collect();
     Meaning { key, dsp_key, alternate, coverage, confidence, segments }
 }
 

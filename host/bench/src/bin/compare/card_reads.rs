@@ -2,10 +2,10 @@
 use crate::analyses::{LAST_END, MOST_SEGMENTS, Told};
 use crate::card_breaches::{BREACHES, broken, good};
 use crate::card_calls::{Read, Reading};
-use crate::card_model::{HEADER, MISSING, Meaning, Segment, WHOLE};
+use crate::card_model::{MISSING, Meaning, Segment, WHOLE, bits_of};
 use crate::card_random::compare_random;
 use crate::card_rounds;
-use crate::cards::{self, of_every_count, of_few_segments};
+use crate::cards::{self, OF_EVERY_COUNT, OF_FEW_SEGMENTS, of_every_count, of_few_segments};
 use crate::groups::Groups;
 
 /// Streams of the seed from here on, of the cards and of the broken ones.
@@ -29,9 +29,9 @@ const MORE: [usize; 4] = [1, 0, 3, 2];
 pub const ROW_O: [u8; 11] = [0x1a, 0xd7, 0x00, 0x03, 0xe8, 0x00, 0x81, 0x5f, 0x90, 0x55, 0xf4];
 pub const ROW_P: [u8; 7] = [0x1c, 0x63, 0, 0, 0, 0, 0];
 
-fn compare_again(groups: &mut Groups, name: &str, told: impl Iterator<Item = Told>) {
+fn compare_again(groups: &mut Groups, name: &str, count: usize, nth: impl Fn(usize) -> Told + Sync) {
     let name = format!("cards read and written again, {name}");
-    groups.group(&name, told, |told| card_rounds::ours(&told), |told| card_rounds::theirs(&told));
+    groups.shared_group(&name, count, nth, card_rounds::ours, card_rounds::theirs);
 }
 
 fn compare_readings(groups: &mut Groups, name: &str, count: usize, nth: impl Fn(usize) -> Reading + Sync) {
@@ -188,8 +188,8 @@ fn every_order(seed: u64) -> Vec<Reading> {
 fn filled(seed: u64) -> Vec<Reading> {
     let filled = |(count, stream): (usize, u64)| {
         let card = good(seed, stream, count).joined();
-        let (used, all) = (HEADER.iter().sum::<u32>() as usize + 39 * count, 8 * card.len());
-        let sets = (used..all).map(|bit| bit..bit + 1).chain([used..all]);
+        let (used, all) = (bits_of(count), 8 * card.len());
+        let sets = (used..all).map(|bit| bit..bit + 1).chain(std::iter::once(used..all));
         let set = sets.filter(|bits| !bits.is_empty()).map(|bits| {
             let mut bytes = card.clone();
             bits.for_each(|bit| flip(&mut bytes, bit));
@@ -284,8 +284,8 @@ fn compare_table(groups: &mut Groups) {
 pub fn compare(groups: &mut Groups) {
     let seed = groups.seed;
     compare_table(groups);
-    compare_again(groups, "0 to 1,023 segments", of_every_count(seed));
-    compare_again(groups, "0 to 12 segments", of_few_segments(seed));
+    compare_again(groups, "0 to 1,023 segments", OF_EVERY_COUNT, |nth| of_every_count(seed, nth));
+    compare_again(groups, "0 to 12 segments", OF_FEW_SEGMENTS, |nth| of_few_segments(seed, nth));
     compare_flips(groups);
     compare_list(groups, "every length", &every_length(seed));
     compare_list(groups, "every layout", &every_layout(seed));

@@ -2,10 +2,19 @@
 use crate::analyses::{self, BREACHES, MOST_SEGMENTS, Told};
 use crate::card_model::Meaning;
 use crate::groups::{Groups, compared_as_shown, compared_exactly};
+use bench::inputs::random::patterns;
 use ulyptesh::calls::{TOO_FEW_BYTES, UNWRITABLE, Written, write_card};
 
-/// So many analyses of few segments, and so many for each broken rule.
-const FEW: usize = 100_000;
+/// Streams of the seed from here on, one for each analysis.
+const STREAM: u64 = 1_000_000;
+const FEW_STREAM: u64 = 1_100_000;
+
+/// Every number of segments so many times.
+const TIMES: usize = 8;
+
+/// So many analyses of every number of segments, of few segments, and for each broken rule.
+pub const OF_EVERY_COUNT: usize = TIMES * (MOST_SEGMENTS + 1);
+pub const OF_FEW_SEGMENTS: usize = 100_000;
 const BROKEN: usize = 2_000;
 
 /// What a byte holds that no card was written to.
@@ -57,43 +66,46 @@ pub fn packed(told: &Told) -> Option<Vec<u8>> {
     Meaning::of_analysis(told)?.card()
 }
 
-fn ours(told: Told) -> Left {
+fn ours(told: &Told) -> Left {
     Left::by(told.lent, |bytes| write_card(&told.as_lent(), bytes))
 }
 
-fn theirs(told: Told) -> Left {
-    Left::wanted(told.lent, packed(&told))
-}
-
-/// Every number of segments eight times.
-pub fn of_every_count(seed: u64) -> impl Iterator<Item = Told> {
-    let counts = (0..=MOST_SEGMENTS).flat_map(|count| [count; 8]);
-    analyses::all_writable(seed, 80, counts).inspect(expect_card)
-}
-
-/// Of 0 to 12 segments.
-pub fn of_few_segments(seed: u64) -> impl Iterator<Item = Told> {
-    analyses::all_writable(seed, 81, (0..FEW).map(|turn| turn % 13)).inspect(expect_card)
-}
-
-pub fn compare(groups: &mut Groups) {
-    let seed = groups.seed;
-    groups.group("cards, 0 to 1,023 segments", of_every_count(seed), ours, theirs);
-    groups.group("cards, 0 to 12 segments", of_few_segments(seed), ours, theirs);
-    for (breach, stream) in BREACHES.iter().zip(100..) {
-        let told = analyses::broken(seed, stream, BROKEN, breach).inspect(expect_none);
-        groups.group(&format!("cards, {}", breach.rule), told, ours, theirs);
-    }
+fn theirs(told: &Told) -> Left {
+    Left::wanted(told.lent, packed(told))
 }
 
 fn is_writable(told: &Told) -> bool {
     Meaning::of_analysis(told).is_some_and(|said| said.keeps_rules())
 }
 
-fn expect_card(told: &Told) {
-    assert!(is_writable(told), "not writable: {told:?}");
+fn writable(seed: u64, stream: u64, count: usize) -> Told {
+    let told = analyses::writable(count, &mut patterns(seed, stream));
+    assert!(is_writable(&told), "not writable: {told:?}");
+    told
+}
+
+/// An analysis of 0 to 1,023 segments.
+pub fn of_every_count(seed: u64, nth: usize) -> Told {
+    writable(seed, STREAM + nth as u64, nth / TIMES)
+}
+
+/// An analysis of 0 to 12 segments.
+pub fn of_few_segments(seed: u64, nth: usize) -> Told {
+    writable(seed, FEW_STREAM + nth as u64, nth % 13)
 }
 
 fn expect_none(told: &Told) {
     assert!(!is_writable(told), "no rule is broken: {told:?}");
+}
+
+pub fn compare(groups: &mut Groups) {
+    let seed = groups.seed;
+    let (every, few) = (|nth| of_every_count(seed, nth), |nth| of_few_segments(seed, nth));
+    groups.shared_group("cards, 0 to 1,023 segments", OF_EVERY_COUNT, every, ours, theirs);
+    groups.shared_group("cards, 0 to 12 segments", OF_FEW_SEGMENTS, few, ours, theirs);
+    for (breach, stream) in BREACHES.iter().zip(100..) {
+        let told = analyses::broken(seed, stream, BROKEN, breach).inspect(expect_none);
+        let name = format!("cards, {}", breach.rule);
+        groups.group(&name, told, |told| ours(&told), |told| theirs(&told));
+    }
 }

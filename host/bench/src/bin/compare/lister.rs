@@ -9,7 +9,7 @@ use std::process::{Command, Output};
 use ulyptesh::calls::LONGEST_CARD;
 
 /// Streams of the seed from here on.
-const STREAM: u64 = 260_000;
+const STREAM: u64 = 290_000;
 
 /// The program, where it was built.
 fn program() -> Option<PathBuf> {
@@ -26,10 +26,11 @@ fn printed(ended: &Output) -> String {
     }
 }
 
-/// Cards of any number of segments, and each rule broken.
-fn cards(seed: u64) -> impl Iterator<Item = Vec<u8>> {
+/// Cards of any number of segments, the largest, and each rule broken.
+pub fn cards(seed: u64) -> impl Iterator<Item = Vec<u8>> {
     let counts = (0..40).chain([100, 500, 1_022, 1_023]);
-    let whole = counts.zip(STREAM..).map(move |(count, stream)| good(seed, stream, count).joined());
+    let whole = counts.zip(STREAM..).map(move |(count, stream)| good(seed, stream, count));
+    let whole = whole.chain([largest()]).map(|said| said.joined());
     let breached = BREACHES.iter().zip(STREAM..);
     whole.chain(breached.map(move |(breach, stream)| broken(seed, stream, breach).0.joined()))
 }

@@ -73,7 +73,7 @@ struct Spoiling {
 
 /// A number that is the same in so many bits.
 fn beyond(dice: &mut Dice, number: u32, bits: u32) -> u32 {
-    number | between(dice, 1, 1 << (u32::BITS - bits)) as u32 * (1 << bits)
+    number + ((between(dice, 1, 1 << (u32::BITS - bits)) as u32) << bits)
 }
 
 fn place(writing: &Writing, dice: &mut Dice) -> usize {

@@ -1,19 +1,14 @@
 //! The tool's `card`: text as the lister has it, and JSON, beside the request's words; refused cards are shown, and told
 //! in a message and by the exit status.
-use crate::card_breaches::{BREACHES, broken, good};
 use crate::card_model::{MISSING, Meaning, Segment, listing};
-use crate::card_reads::{ROW_O, ROW_P, largest};
 use crate::groups::{Groups, compared_as_shown};
 use crate::json::Json;
 use crate::key_names::{CAMELOT, name};
-use crate::lister::{endless_fronts, endless_listing, no_cards};
+use crate::lister::{cards, endless_fronts, endless_listing, no_cards};
 use crate::tool_runs::{Folder, output_on, output_on_endless, text};
 use std::process::Output;
 
-/// Streams of the seed from here on.
-const STREAM: u64 = 270_000;
-
-/// How a run ended, what it printed, and what its messages have to begin with and to say.
+/// How a run ended, what it printed, and whether each message is as it has to be, and there are no others.
 #[derive(Debug, PartialEq)]
 struct Shown {
     status: Option<i32>,
@@ -32,7 +27,7 @@ fn refusal(bytes: &[u8]) -> Option<u32> {
     Meaning::read(bytes).err()
 }
 
-/// Each message by its line: whether it begins and goes on as it has to; no more lines.
+/// Each message has a line, which begins and goes on as given.
 fn shown(ended: &Output, messages: &[(String, String)]) -> Shown {
     let said = text(&ended.stderr);
     let begins = |(line, (first, then)): (&str, &(String, String))| {
@@ -50,19 +45,6 @@ fn wanted(printed: String, messages: usize) -> Shown {
 /// The message about a lone file, where there is one.
 fn message(file: &str, bytes: &[u8]) -> Vec<(String, String)> {
     refusal(bytes).map(|refusal| (format!("{file}: "), told(refusal))).into_iter().collect()
-}
-
-/// Cards and no cards.
-fn files(seed: u64) -> Vec<Vec<u8>> {
-    let counts = (0..30).chain([300, 1_023]).zip(STREAM..);
-    let whole = counts.map(|(count, stream)| good(seed, stream, count).joined());
-    let breached =
-        BREACHES.iter().zip(STREAM..).map(|(breach, stream)| broken(seed, stream, breach).0.joined());
-    whole
-        .chain([ROW_O.to_vec(), ROW_P.to_vec(), largest().joined()])
-        .chain(breached)
-        .chain(no_cards())
-        .collect()
 }
 
 /// As a file, and by standard input.
@@ -133,13 +115,13 @@ fn number(number: u64) -> Json {
     Json::Number(number.to_string())
 }
 
-/// A key's name, number and code, or nulls.
-fn key_fields(prefix: &str, names: [&str; 3], key: u64) -> Vec<(String, Json)> {
+/// A key's name, number and code, as far as there are fields for them, or nulls.
+fn key_fields(fields: &[&str], key: u64) -> Vec<(String, Json)> {
     let values = match name(key as u32) {
         Some(name) => [Json::Text(name), number(key), Json::Text(CAMELOT[key as usize].into())],
         None => [Json::Null, Json::Null, Json::Null],
     };
-    names.iter().map(|name| format!("{prefix}{name}")).zip(values).collect()
+    fields.iter().map(|field| field.to_string()).zip(values).collect()
 }
 
 fn field(name: &str, value: Json) -> Vec<(String, Json)> {
@@ -151,7 +133,7 @@ fn segment_object((start, part): (u64, &Segment)) -> Json {
         [
             field("start_ms", number(start)),
             field("end_ms", number(part.end)),
-            key_fields("", ["key", "key_number", "camelot"], part.key),
+            key_fields(&["key", "key_number", "camelot"], part.key),
             field("confidence_thousandths", number(part.confidence)),
         ]
         .concat(),
@@ -166,8 +148,6 @@ fn object(file: &str, bytes: &[u8]) -> Json {
     };
     let or_null = |value: u64, there: bool| if there { number(value) } else { Json::Null };
     let (is_card, last) = (refusal == Json::Null, said.segments.last().map_or(0, |last| last.end));
-    let (key, dsp_key) = (["key", "key_number", "camelot"], ["key", "key_number"]);
-    let dsp_fields = key_fields("dsp_", ["key", "key_number", ""], said.dsp_key);
     let segments = said.starts().zip(&said.segments).map(segment_object).collect();
     Json::Object(
         [
@@ -175,10 +155,10 @@ fn object(file: &str, bytes: &[u8]) -> Json {
             field("file", Json::Text(file.into())),
             field("refusal", refusal),
             field("duration_ms", or_null(last, is_card)),
-            key_fields("", key, said.key),
-            dsp_fields[..dsp_key.len()].to_vec(),
+            key_fields(&["key", "key_number", "camelot"], said.key),
+            key_fields(&["dsp_key", "dsp_key_number"], said.dsp_key),
             field("confidence_thousandths", or_null(said.confidence, is_card)),
-            key_fields("alternate", ["", "_number", "_camelot"], said.alternate),
+            key_fields(&["alternate", "alternate_number", "alternate_camelot"], said.alternate),
             field("coverage_thousandths", or_null(said.coverage, said.alternate != MISSING)),
             field("segments", Json::List(segments)),
         ]
@@ -232,7 +212,7 @@ fn compare_written(groups: &mut Groups) {
 }
 
 pub fn compare(groups: &mut Groups) {
-    let files = files(groups.seed);
+    let files: Vec<Vec<u8>> = cards(groups.seed).chain(no_cards()).collect();
     compare_text(groups, &files);
     compare_endless(groups);
     compare_many(groups, &files);
