@@ -70,13 +70,14 @@ fn of_length(card: &[u8], length: usize, padding: u8) -> Vec<u8> {
     card.iter().copied().chain(std::iter::repeat(padding)).take(length).collect()
 }
 
-/// Every length up to three bytes more than the card's.
+/// Every length up to three bytes more than the card's, these with zeros and with ones behind it.
 fn every_length(seed: u64) -> Vec<Reading> {
     let counts = (0..=FEW).chain([50, MOST_SEGMENTS]);
     let lengths = |(count, stream): (usize, u64)| {
         let card = good(seed, stream, count).joined();
-        let lengths = (0..=card.len() + 3).flat_map(|length| [(length, 0), (length, 0xff)]);
-        let lent = lengths.map(|(length, padding)| of_length(&card, length, padding));
+        let cut = (0..=card.len()).map(|length| (length, 0));
+        let padded = (1..=3).flat_map(|more| [(card.len() + more, 0), (card.len() + more, 0xff)]);
+        let lent = cut.chain(padded).map(|(length, padding)| of_length(&card, length, padding));
         lent.map(|bytes| Reading::new(bytes, count, MORE)).collect::<Vec<_>>()
     };
     counts.zip(STREAM..).flat_map(lengths).collect()

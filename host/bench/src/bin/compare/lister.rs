@@ -26,27 +26,24 @@ fn printed(ended: &Output) -> String {
     }
 }
 
-/// Cards of any number of segments, the largest, and each rule broken.
+/// Cards of any number of segments, the largest, rows o and p, and each rule broken.
 pub fn cards(seed: u64) -> impl Iterator<Item = Vec<u8>> {
     let counts = (0..40).chain([100, 500, 1_022, 1_023]);
     let whole = counts.zip(STREAM..).map(move |(count, stream)| good(seed, stream, count));
-    let whole = whole.chain([largest()]).map(|said| said.joined());
+    let whole = whole.chain([largest()]).map(|said| said.joined()).chain([ROW_O.to_vec(), ROW_P.to_vec()]);
     let breached = BREACHES.iter().zip(STREAM..);
     whole.chain(breached.map(move |(breach, stream)| broken(seed, stream, breach).0.joined()))
 }
 
-/// Bytes that are no card: of every small length, of every layout, longer than the card and than any card, and with a
+/// Bytes that are no card: of every small length, of every other layout, longer than the card and than any card, and with a
 /// filler bit.
 pub fn no_cards() -> impl Iterator<Item = Vec<u8>> {
     let cut = (0..ROW_O.len()).map(|length| ROW_O[..length].to_vec());
-    let layouts = (0..16).map(|layout| [&[layout << 4 | ROW_O[0] & 0xf], &ROW_O[1..]].concat());
+    let layouts = (0..16).filter(|&layout| layout != 1);
+    let layouts = layouts.map(|layout| [&[layout << 4 | ROW_O[0] & 0xf], &ROW_O[1..]].concat());
     let lengths = [1, LONGEST_CARD - ROW_O.len(), LONGEST_CARD + 1 - ROW_O.len(), LONGEST_CARD, 1 << 20];
     let longer = lengths.map(|more| [&ROW_O[..], &vec![0; more]].concat());
-    let filled = [ROW_O.len() - 1, ROW_P.len() - 1].map(|last| {
-        let mut bytes = if last + 1 == ROW_O.len() { ROW_O.to_vec() } else { ROW_P.to_vec() };
-        bytes[last] |= 1;
-        bytes
-    });
+    let filled = [0x01, 0x40].map(|bit| [&ROW_P[..ROW_P.len() - 1], &[bit]].concat());
     let above_largest = [&largest().joined()[..], &[0]].concat();
     cut.chain(layouts).chain(longer).chain(filled).chain([above_largest, vec![0xff; 1 << 16]])
 }

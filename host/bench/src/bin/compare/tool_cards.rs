@@ -5,18 +5,21 @@ use crate::groups::{Groups, compared_as_shown};
 use crate::json::Json;
 use crate::key_names::{CAMELOT, name};
 use crate::lister::{cards, endless_fronts, endless_listing, no_cards};
+use crate::tool_json::objects;
 use crate::tool_runs::{Folder, output_on, output_on_endless, text};
 use std::process::Output;
 
-/// How a run ended, what it printed, and whether each message is as it has to be, and there are no others.
+/// How a run ended, what it printed, whether each message is as it has to be and there are no others, and whether files
+/// changed.
 #[derive(Debug, PartialEq)]
 struct Shown {
     status: Option<i32>,
     printed: String,
     says: Vec<bool>,
+    changes_files: bool,
 }
 
-compared_as_shown!(Shown);
+compared_as_shown!(Json, Shown);
 
 /// A refusal's number stands in the message.
 fn told(refusal: u32) -> String {
@@ -28,18 +31,26 @@ fn refusal(bytes: &[u8]) -> Option<u32> {
 }
 
 /// Each message has a line, which begins and goes on as given.
-fn shown(ended: &Output, messages: &[(String, String)]) -> Shown {
+fn shown(folder: &Folder, run: impl FnOnce() -> Output, messages: &[(String, String)]) -> Shown {
+    let before = folder.content();
+    let ended = run();
     let said = text(&ended.stderr);
     let begins = |(line, (first, then)): (&str, &(String, String))| {
         line.starts_with(&format!("ulyptesh: {first}")) && line.contains(then)
     };
     let mut says: Vec<bool> = said.lines().zip(messages).map(begins).collect();
     says.push(said.lines().count() == messages.len());
-    Shown { status: ended.status.code(), printed: text(&ended.stdout), says }
+    let changes_files = folder.content() != before;
+    Shown { status: ended.status.code(), printed: text(&ended.stdout), says, changes_files }
 }
 
 fn wanted(printed: String, messages: usize) -> Shown {
-    Shown { status: Some(i32::from(messages > 0)), printed, says: vec![true; messages + 1] }
+    Shown {
+        status: Some(i32::from(messages > 0)),
+        printed,
+        says: vec![true; messages + 1],
+        changes_files: false,
+    }
 }
 
 /// The message about a lone file, where there is one.
@@ -52,11 +63,11 @@ fn compare_text(groups: &mut Groups, files: &[Vec<u8>]) {
     let folder = Folder::new("tool-cards");
     let as_file = |bytes: Vec<u8>| {
         folder.put("card", &bytes);
-        shown(&folder.run(&["card", "card"]), &message("card", &bytes))
+        shown(&folder, || folder.run(&["card", "card"]), &message("card", &bytes))
     };
     let by_input = |bytes: Vec<u8>| {
-        let ended = output_on(folder.command(&["card", "-"]), [&bytes[..]]);
-        shown(&ended, &message("-", &bytes))
+        let run = || output_on(folder.command(&["card", "-"]), [&bytes[..]]);
+        shown(&folder, run, &message("-", &bytes))
     };
     let listed = |bytes: Vec<u8>| wanted(listing(&bytes), message("", &bytes).len());
     groups.group("the tool's cards as text", files.iter().cloned(), as_file, listed);
@@ -72,7 +83,7 @@ fn compare_endless(groups: &mut Groups) {
     };
     let refused = |front: Vec<u8>| Some((true, endless_listing(&front)));
     groups.group("the tool's cards on endless input", endless_fronts().into_iter(), by_pipe, refused);
-    let zeros = |file: String| shown(&folder.run(&["card", &file]), &message(&file, &[0; 7]));
+    let zeros = |file: String| shown(&folder, || folder.run(&["card", &file]), &message(&file, &[0; 7]));
     let names = ["/dev/zero".to_string()];
     groups.group("the tool's cards on an endless file", names.into_iter(), zeros, |_| {
         wanted(endless_listing(&[]), 1)
@@ -90,7 +101,7 @@ fn in_one_run(folder: &Folder, files: &[Vec<u8>]) -> Shown {
     let mut messages = vec![("missing: ".to_string(), String::new())];
     messages.extend(files.iter().enumerate().flat_map(|(nth, bytes)| message(&file_name(nth), bytes)));
     messages.push((format!("{} of {} failed: missing", messages.len(), files.len() + 1), String::new()));
-    shown(&folder.run(&words), &messages)
+    shown(folder, || folder.run(&words), &messages)
 }
 
 fn each_under_its_name(files: &[Vec<u8>]) -> Shown {
@@ -166,16 +177,7 @@ fn object(file: &str, bytes: &[u8]) -> Json {
     )
 }
 
-/// The objects of a run, in an array or line by line; none where something else is printed.
-fn objects(printed: &str, form: &str) -> Option<Vec<Json>> {
-    match form {
-        "--json" => Json::read(printed)?.list().map(<[Json]>::to_vec),
-        _ => printed.lines().map(Json::read).collect(),
-    }
-}
-
-compared_as_shown!(Json);
-
+/// An array of all, and an object a line; some are refused, so both end with 1.
 fn compare_json(groups: &mut Groups, files: &[Vec<u8>]) {
     let folder = Folder::new("tool-cards");
     files.iter().enumerate().for_each(|(nth, bytes)| folder.put(&file_name(nth), bytes));
@@ -184,10 +186,11 @@ fn compare_json(groups: &mut Groups, files: &[Vec<u8>]) {
         let words =
             ["card".to_string(), forms[nth].into()].into_iter().chain((0..files.len()).map(file_name));
         let ended = folder.run(&words.collect::<Vec<_>>());
-        objects(&text(&ended.stdout), forms[nth])
+        (ended.status.code() == Some(1), objects(&text(&ended.stdout), forms[nth]))
     };
-    let wanted =
-        |_| Some(files.iter().enumerate().map(|(nth, bytes)| object(&file_name(nth), bytes)).collect());
+    let told = files.iter().enumerate().map(|(nth, bytes)| object(&file_name(nth), bytes));
+    let told: Vec<Json> = told.collect();
+    let wanted = |_| (true, told.clone());
     groups.group("the tool's cards as JSON", 0..forms.len(), ours, wanted);
 }
 
@@ -205,7 +208,7 @@ fn compare_written(groups: &mut Groups) {
     };
     let ours = |nth: usize| {
         let bytes = written(nth);
-        shown(&folder.run(&["card", "new"]), &message("new", &bytes))
+        shown(&folder, || folder.run(&["card", "new"]), &message("new", &bytes))
     };
     let listed = |nth: usize| wanted(listing(&written(nth)), 0);
     groups.group("the tool's cards of analyses", 0..tracks.len(), ours, listed);

@@ -120,7 +120,7 @@ fn filled() -> Folder {
 }
 
 /// The objects that a run prints, and nothing else; none where something else is printed.
-fn objects(printed: &str, words: &str) -> Vec<Json> {
+pub fn objects(printed: &str, words: &str) -> Vec<Json> {
     let read: Option<Vec<Json>> = if words.contains("--json-lines") {
         printed.lines().map(Json::read).collect()
     } else {
