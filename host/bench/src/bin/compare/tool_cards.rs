@@ -74,20 +74,17 @@ fn compare_text(groups: &mut Groups, files: &[Vec<u8>]) {
     groups.group("the tool's cards by standard input", files.iter().cloned(), by_input, listed);
 }
 
-/// Inputs that never end, by a pipe and as a file.
+/// Inputs that never end, as standard input and as a file.
 fn compare_endless(groups: &mut Groups) {
     let folder = Folder::new("tool-cards");
-    let by_pipe = |front: Vec<u8>| {
-        let ended = output_on_endless(folder.command(&["card", "-"]), &front)?;
+    let named = |name: &str| endless_fronts().map(|front| (name.to_string(), front));
+    let ours = |(name, front): (String, Vec<u8>)| {
+        let ended = output_on_endless(folder.command(&["card", &name]), &front)?;
         Some((ended.status.code() == Some(1), text(&ended.stdout)))
     };
-    let refused = |front: Vec<u8>| Some((true, endless_listing(&front)));
-    groups.group("the tool's cards on endless input", endless_fronts().into_iter(), by_pipe, refused);
-    let zeros = |file: String| shown(&folder, || folder.run(&["card", &file]), &message(&file, &[0; 7]));
-    let names = ["/dev/zero".to_string()];
-    groups.group("the tool's cards on an endless file", names.into_iter(), zeros, |_| {
-        wanted(endless_listing(&[]), 1)
-    });
+    let refused = |(_, front): (String, Vec<u8>)| Some((true, endless_listing(&front)));
+    let inputs = ["-", "/dev/stdin"].into_iter().flat_map(named);
+    groups.group("the tool's cards on endless input", inputs, ours, refused);
 }
 
 fn file_name(nth: usize) -> String {

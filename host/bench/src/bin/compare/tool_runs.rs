@@ -14,10 +14,10 @@ use std::time::{Duration, Instant};
 const PAUSE: Duration = Duration::from_millis(2);
 
 /// A program that takes longer does not end.
-const PATIENCE: Duration = Duration::from_secs(20);
+const PATIENCE: Duration = Duration::from_secs(10);
 
-/// So many bytes of an endless input are written at once.
-const BLOCK: usize = 1 << 12;
+/// So many bytes of an endless input are written, many more than a card has.
+const ENOUGH: usize = 1 << 22;
 
 /// Tells the folders of one run apart.
 static FOLDERS: AtomicUsize = AtomicUsize::new(0);
@@ -149,20 +149,21 @@ fn ends(running: &mut Child) -> bool {
     true
 }
 
-/// What a program answers to an input that never ends: zeros behind its front; none where it does not end by itself.
+/// What a program answers to an input that never ends, zeros behind its front and then nothing more by an open pipe; none
+/// where it does not end by itself.
 pub fn output_on_endless(command: Command, front: &[u8]) -> Option<Output> {
     let (mut running, mut input) = started(command);
     let ended = thread::scope(|scope| {
-        scope.spawn(move || {
-            let mut written = input.write_all(front);
-            while written.is_ok() {
-                written = input.write_all(&[0; BLOCK]);
-            }
+        let writing = scope.spawn(move || {
+            // a program that ends closes the pipe, which its answer tells
+            drop(input.write_all(front).and_then(|()| input.write_all(&vec![0; ENOUGH])));
+            input
         });
         let ended = ends(&mut running);
         if !ended {
             running.kill().expect("a program that was started");
         }
+        drop(writing.join().expect("no thread failed"));
         ended
     });
     let output = running.wait_with_output().expect("the program ends");
