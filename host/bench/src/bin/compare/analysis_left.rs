@@ -5,8 +5,8 @@ use crate::card_rounds::{self, Round};
 use crate::groups::Compared;
 use ulyptesh::calls::{AnalyseResult, Buffers, EstimateRows, FrameRows, NO_KEY, SegmentRows, analyse};
 
-/// What the call answers, what it leaves in all that it was lent to write, whether all else stayed, and its card, written
-/// and read, where the call is not refused.
+/// What the call answers, what it leaves in all that it was lent to write, whether all else stayed, and its card,
+/// written and read, where the call is not refused.
 #[derive(Debug)]
 pub struct Left {
     pub answer: AnalyseResult,

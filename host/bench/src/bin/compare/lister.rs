@@ -35,8 +35,8 @@ pub fn cards(seed: u64) -> impl Iterator<Item = Vec<u8>> {
     whole.chain(breached.map(move |(breach, stream)| broken(seed, stream, breach).0.joined()))
 }
 
-/// Bytes that are no card: of every small length, of every other layout, longer than the card and than any card, and with a
-/// filler bit.
+/// Bytes that are no card: of every small length, of every other layout, longer than the card and than any card, and
+/// with a filler bit.
 pub fn no_cards() -> impl Iterator<Item = Vec<u8>> {
     let cut = (0..ROW_O.len()).map(|length| ROW_O[..length].to_vec());
     let layouts = (0..16).filter(|&layout| layout != 1);

@@ -1,5 +1,5 @@
-//! The tool's `card`: text as the lister has it, and JSON, beside the request's words; refused cards are shown, and told
-//! in a message and by the exit status.
+//! The tool's `card`: text as the lister has it, and JSON, beside the request's words; refused cards are shown, and
+//! told in a message and by the exit status.
 use crate::card_model::{MISSING, Meaning, Segment, listing};
 use crate::groups::{Groups, compared_as_shown};
 use crate::json::Json;
@@ -9,8 +9,8 @@ use crate::tool_json::objects;
 use crate::tool_runs::{Folder, output_on, output_on_endless, text};
 use std::process::Output;
 
-/// How a run ended, what it printed, whether each message is as it has to be and there are no others, and whether files
-/// changed.
+/// How a run ended, what it printed, whether each message is as it has to be and there are no others, and whether
+/// files changed.
 #[derive(Debug, PartialEq)]
 struct Shown {
     status: Option<i32>,

@@ -149,8 +149,8 @@ fn ends(running: &mut Child) -> bool {
     true
 }
 
-/// What a program answers to an input that never ends, zeros behind its front and then nothing more by an open pipe; none
-/// where it does not end by itself.
+/// What a program answers to an input that never ends, zeros behind its front and then nothing more by an open pipe;
+/// none where it does not end by itself.
 pub fn output_on_endless(command: Command, front: &[u8]) -> Option<Output> {
     let (mut running, mut input) = started(command);
     let ended = thread::scope(|scope| {
