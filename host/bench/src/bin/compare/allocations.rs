@@ -3,8 +3,10 @@
 use crate::analyses::{self, MOST_SEGMENTS, Told, all_writable};
 use crate::analysis_calls::Asked;
 use crate::analysis_left;
+use crate::cards::packed;
 use crate::frame_calls::{self, BREACHES, whole};
 use crate::groups::Groups;
+use bench::calls::{CardRead, PackedFields, read_card, write_packed_card};
 use bench::inputs::chromas::plain_kinds;
 use bench::inputs::dice::Dice;
 use bench::inputs::tracks::{KINDS, Maker};
@@ -146,6 +148,24 @@ fn by_card(told: Told) -> u64 {
     requests(|| write_card(&told.as_lent(), &mut bytes))
 }
 
+/// A card without its first byte, with a row too few and with rows enough; and what is read written again.
+fn by_reading(told: Told) -> u64 {
+    let card = packed(&told).expect("an analysis that a card holds");
+    let (count, mut bytes) = (told.ends.len(), vec![0; card.len()]);
+    let (mut starts, mut ends) = (vec![0; count], vec![0; count]);
+    let (mut keys, mut confidences) = (vec![0; count], vec![0; count]);
+    requests(|| {
+        read_card(&card[1..], &mut starts, &mut ends, &mut keys, &mut confidences);
+        read_card(&card, &mut starts, &mut ends, &mut keys[count.min(1)..], &mut confidences);
+        let CardRead { key, dsp_key, alternate, coverage, confidence, .. } =
+            read_card(&card, &mut starts, &mut ends, &mut keys, &mut confidences);
+        let (starts, ends, keys, confidences) = (&starts[..], &ends[..], &keys[..], &confidences[..]);
+        let fields =
+            PackedFields { key, dsp_key, alternate, coverage, confidence, starts, ends, keys, confidences };
+        write_packed_card(&fields, &mut bytes)
+    })
+}
+
 /// Chromas of every kind, the front of each, and none.
 fn chromas(seed: u64) -> impl Iterator<Item = Vec<f32>> {
     let whole = plain_kinds(seed).flat_map(|kind| kind.chromas.take(OF_EACH_KIND));
@@ -177,4 +197,6 @@ pub fn compare(groups: &mut Groups) {
     groups.group("memory asked for by scores and key", chromas(seed), by_scores, |_| 0);
     groups.group("memory asked for by key names", names(), by_key_name, |_| 0);
     groups.group("memory asked for by cards", cards(seed), by_card, |_| 0);
+    let written = all_writable(seed, STREAM, 0..=MOST_SEGMENTS);
+    groups.group("memory asked for by reading cards and writing them again", written, by_reading, |_| 0);
 }

@@ -1,4 +1,5 @@
 //! Analyses as a card is written from them: such as it holds, and such as break one of its rules.
+use crate::card_model::length_of;
 use crate::packed::LONGEST;
 use bench::inputs::random::patterns;
 use ulyptesh::calls::{CardFields, NO_KEY};
@@ -7,7 +8,7 @@ use ulyptesh::calls::{CardFields, NO_KEY};
 pub const MOST_SEGMENTS: usize = 1_023;
 
 /// The last end of a card, in milliseconds.
-const LAST_END: u64 = 1000 * LONGEST;
+pub const LAST_END: u64 = 1000 * LONGEST;
 
 /// An analysis that owns its lists, and how many bytes are lent for its card.
 #[derive(Debug, Clone)]
@@ -106,7 +107,7 @@ fn silent(lent: usize) -> Told {
 
 /// An analysis that a card holds, with so many segments; the lent bytes may be too few.
 pub fn writable(count: usize, random: &mut impl Iterator<Item = u64>) -> Told {
-    let needed = (49 + 39 * count).div_ceil(8);
+    let needed = length_of(count);
     let lent =
         [needed, needed - 1, needed + 5, below(needed as u64, random) as usize][below(4, random) as usize];
     let mut told = silent(lent);

@@ -1,14 +1,48 @@
-//! What a whole analysis leaves: its answer, and what every lent list holds afterwards.
+//! What a whole analysis leaves: its answer, what every lent list holds afterwards, and the card that is made of it.
+use crate::analyses::Told;
 use crate::analysis_calls::Asked;
+use crate::card_rounds::{self, Round};
 use crate::groups::Compared;
 use ulyptesh::calls::{AnalyseResult, Buffers, EstimateRows, FrameRows, NO_KEY, SegmentRows, analyse};
 
-/// What the call answers, what it leaves in all that it was lent to write, and whether all else stayed.
+/// What the call answers, what it leaves in all that it was lent to write, whether all else stayed, and its card,
+/// written and read, where the call is not refused.
 #[derive(Debug)]
 pub struct Left {
     pub answer: AnalyseResult,
-    pub lent: Buffers,
-    pub stayed: bool,
+    lent: Buffers,
+    stayed: bool,
+    card: Option<Round>,
+}
+
+/// What a card is written from.
+fn told(answer: &AnalyseResult, segments: &SegmentRows) -> Told {
+    let count = answer.segments as usize;
+    Told {
+        key: answer.key,
+        dsp_key: answer.dsp_key,
+        alternate: answer.alternate,
+        coverage: answer.coverage,
+        confidence: answer.confidence,
+        starts: segments.starts[..count].to_vec(),
+        ends: segments.ends[..count].to_vec(),
+        keys: segments.keys[..count].to_vec(),
+        confidences: segments.confidences[..count].to_vec(),
+        lent: 0,
+    }
+}
+
+impl Left {
+    /// Whose answer it is makes the card's round.
+    fn new(answer: AnalyseResult, lent: Buffers, stayed: bool, round: fn(&Told) -> Round) -> Self {
+        let card = (answer.refusal == 0).then(|| round(&told(&answer, &lent.segments)));
+        Self { answer, lent, stayed, card }
+    }
+
+    /// What a call has to leave, by the oracle or the request's words.
+    pub fn wanted(answer: AnalyseResult, lent: Buffers) -> Self {
+        Self::new(answer, lent, true, card_rounds::theirs)
+    }
 }
 
 impl Compared for AnalyseResult {
@@ -36,13 +70,15 @@ impl Compared for Left {
             && one.work.same(&another.work)
             && one.estimates.same(&another.estimates)
             && one.segments.same(&another.segments)
+            && self.card.same(&other.card)
     }
 
     fn shown(&self) -> String {
         let Buffers { frames, work, estimates, segments } = &self.lent;
         let lists = [frames.energies.shown(), work.shown(), estimates.middles.shown(), segments.ends.shown()];
         let stayed = if self.stayed { "" } else { ", samples or sheet changed" };
-        format!("{}{stayed}; energies, work, middles, ends: {}", self.answer.shown(), lists.join("; "))
+        let (answer, lists, card) = (self.answer.shown(), lists.join("; "), self.card.shown());
+        format!("{answer}{stayed}; energies, work, middles, ends: {lists}; card: {card}")
     }
 }
 
@@ -84,7 +120,7 @@ pub fn untouched(asked: &Asked) -> Buffers {
 pub fn ours(asked: &Asked) -> Left {
     let (before, mut lent) = (asked.imprint(), untouched(asked));
     let answer = analyse(asked.call.settings, &asked.call.sheet, &asked.call.samples, &mut lent);
-    Left { answer, lent, stayed: asked.imprint() == before }
+    Left::new(answer, lent, asked.imprint() == before, card_rounds::ours)
 }
 
 /// An answer without a key: a refusal, or the empty analysis.
@@ -106,5 +142,5 @@ pub fn keyless(refusal: u32, position: usize, frames: usize) -> AnalyseResult {
 
 /// What a call leaves that the table refuses, or answers at once.
 pub fn refused(asked: &Asked, refusal: u32) -> Left {
-    Left { answer: keyless(refusal, 0, 0), lent: untouched(asked), stayed: true }
+    Left::wanted(keyless(refusal, 0, 0), untouched(asked))
 }

@@ -54,7 +54,7 @@ macro_rules! compared_as_shown {
 
 pub(crate) use compared_as_shown;
 
-compared_exactly!(bool, u8, u32, u64, usize, String);
+compared_exactly!(bool, u8, u16, u32, u64, usize, String);
 
 macro_rules! compared_as_floats {
     ($($kind:ty),*) => {$(

@@ -57,7 +57,7 @@ fn refused(refusal: u32) -> Named {
 }
 
 /// Tonic and mode; none where no key has the number.
-fn name(number: u32) -> Option<String> {
+pub fn name(number: u32) -> Option<String> {
     let (mode, tonic) = (number as usize / TONICS.len(), number as usize % TONICS.len());
     Some(format!("{} {}", TONICS[tonic], MODES.get(mode)?))
 }

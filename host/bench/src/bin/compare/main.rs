@@ -10,6 +10,12 @@ mod analysis_left;
 mod analyzers;
 #[cfg(oracle)]
 mod block_tracks;
+mod card_breaches;
+mod card_calls;
+mod card_model;
+mod card_random;
+mod card_reads;
+mod card_rounds;
 mod cards;
 mod chroma_calls;
 #[cfg(oracle)]
@@ -34,10 +40,12 @@ mod json;
 mod key_names;
 #[cfg(oracle)]
 mod keys;
+mod lister;
 mod medians;
 mod numbers;
 mod orders;
 mod packed;
+mod packed_cards;
 mod refusals;
 mod rows;
 #[cfg(oracle)]
@@ -55,6 +63,7 @@ mod short_tracks;
 mod shortening;
 #[cfg(oracle)]
 mod their_analyses;
+mod tool_cards;
 mod tool_forms;
 #[cfg(oracle)]
 mod tool_inputs;
@@ -108,7 +117,7 @@ macro_rules! beside_oracle {
     };
 }
 
-const TOPICS: [Topic; 30] = [
+const TOPICS: [Topic; 34] = [
     alone!(numbers),
     alone!(orders),
     alone!(key_names),
@@ -118,6 +127,9 @@ const TOPICS: [Topic; 30] = [
     alone!(medians),
     alone!(packed),
     alone!(cards),
+    alone!(card_reads),
+    alone!(packed_cards),
+    alone!(lister),
     alone!(sheets),
     beside_oracle!(filters),
     alone!(refusals),
@@ -136,6 +148,7 @@ const TOPICS: [Topic; 30] = [
     alone!(tool_outputs),
     alone!(tool_forms),
     alone!(tool_json),
+    alone!(tool_cards),
     alone!(tool_libraries),
     alone!(tool_pictures),
     beside_oracle!(tool_tracks),

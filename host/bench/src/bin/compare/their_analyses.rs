@@ -75,5 +75,5 @@ pub fn theirs(asked: &Asked) -> Left {
     }
     let mut lent = untouched(asked);
     let answer = their_answer(asked, &mut lent);
-    Left { answer, lent, stayed: true }
+    Left::wanted(answer, lent)
 }

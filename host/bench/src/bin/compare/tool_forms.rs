@@ -1,4 +1,5 @@
 //! What the tool prints, beside what its pages say: help, notations, keys alone, keys at several times, names.
+use crate::card_reads::{ROW_O, ROW_P};
 use crate::groups::{Groups, compared_exactly};
 use crate::key_names::{CAMELOT, OPEN_KEY};
 use crate::tool_runs::{Folder, text};
@@ -9,7 +10,7 @@ use ulyptesh::{Key, Notation};
 type Case = (&'static str, i32, &'static str);
 
 /// The track is a tone on A; silence has no key.
-const CASES: [Case; 15] = [
+const CASES: [Case; 21] = [
     ("analyse tone --rate 8000 --key-only", 0, "A minor\n"),
     ("analyse tone --rate 8000 --key-only --notation sharps", 0, "A minor\n"),
     ("analyse tone --rate 8000 --key-only --notation camelot", 0, "8A\n"),
@@ -25,6 +26,12 @@ const CASES: [Case; 15] = [
     ("key-name 13", 0, "C# minor\n"),
     ("key-name 13 --notation flats", 0, "Db minor\n"),
     ("key 1 0 0 0 1 0 0 -1 0 0 0 0 --notation open-key --help", 0, KEY_HELP),
+    ("card o", 0, "A minor\n0 180000 A minor\n"),
+    ("card p --notation flats", 0, "no key\n"),
+    ("card o --notation camelot", 0, "8A\n0 180000 8A\n"),
+    ("card --notation=open-key -- o", 0, "1m\n0 180000 1m\n"),
+    ("card p o", 0, "p:\nno key\no:\nA minor\n0 180000 A minor\n"),
+    ("card o silent p", 1, "o:\nA minor\n0 180000 A minor\nsilent:\nrefused 21\np:\nno key\n"),
 ];
 
 const KEY_HELP: &str = "\
@@ -52,6 +59,8 @@ fn filled() -> Folder {
     folder.put_samples("tone", &tone());
     folder.put_samples("-tone", &tone());
     folder.put_samples("silent", &[0.0; 16_000]);
+    folder.put("o", &ROW_O);
+    folder.put("p", &ROW_P);
     folder.put_samples("bell\u{7}\u{1b}[31m", &[0.0; 16_000]);
     folder
 }
@@ -86,7 +95,7 @@ fn by_tool(folder: &Folder, (number, notation): (usize, usize)) -> String {
 fn help(folder: &Folder) -> [bool; 4] {
     let one = |words: &[&str]| printed(folder, words).text;
     let whole = one(&["--help"]);
-    let commands = ["analyse", "key-at", "key", "key-name", "demo"];
+    let commands = ["analyse", "key-at", "card", "key", "key-name", "demo"];
     let version = format!("ulyptesh {}, interface {ABI}\n", env!("CARGO_PKG_VERSION"));
     [
         whole == one(&["help"]) && whole == one(&["-h"]),
@@ -106,12 +115,15 @@ fn by_input(folder: &Folder) -> [bool; 2] {
 }
 
 /// Control characters in a file's name reach no terminal.
-fn names_are_harmless(folder: &Folder) -> [bool; 2] {
-    let ended = folder.run(&["analyse", "bell\u{7}\u{1b}[31m", "lost\u{1b}", "--rate", "8000"]);
+fn names_are_harmless(folder: &Folder, words: &str) -> [bool; 2] {
+    let (command, options) = words.split_once(' ').unwrap_or((words, ""));
+    let files = ["bell\u{7}\u{1b}[31m", "lost\u{1b}"];
+    let words: Vec<&str> = [command].into_iter().chain(files).chain(options.split_whitespace()).collect();
+    let ended = folder.run(&words);
     let harmless = |bytes: &[u8]| text(bytes).chars().all(|c| c == '\n' || !c.is_control());
     [
         harmless(&ended.stdout) && harmless(&ended.stderr),
-        text(&ended.stdout).starts_with("bell\\u{7}\\u{1b}[31m: "),
+        text(&ended.stdout).starts_with("bell\\u{7}\\u{1b}[31m:"),
     ]
 }
 
@@ -130,8 +142,8 @@ pub fn compare(groups: &mut Groups) {
     groups.group("the tool on standard input", [0u32].into_iter(), |_| by_input(&folder), |_| [true; 2]);
     groups.group(
         "names in the tool's messages",
-        [0u32].into_iter(),
-        |_| names_are_harmless(&folder),
+        ["analyse --rate 8000".to_string(), "card".into()].into_iter(),
+        |words| names_are_harmless(&folder, &words),
         |_| [true; 2],
     );
 }

@@ -5,12 +5,17 @@ use crate::tool_runs::{Folder, text};
 use std::fs;
 use std::path::Path;
 
+/// The sections on what an array holds.
+const TRACK: &str = "A track";
+const CARD: &str = "A card";
+
 /// A field's name and its kind, as a row of the page's tables has them.
 type Field = (String, String);
 
 /// The fields of the section with this title.
 fn fields(page: &str, title: &str) -> Vec<Field> {
-    let section = page.split("\n## ").find(|section| section.starts_with(title)).unwrap_or_default();
+    let titled = |section: &&str| section.lines().next() == Some(title);
+    let section = page.split("\n## ").find(titled).unwrap_or_default();
     let cells = section.lines().map(|line| line.split(" | ").collect::<Vec<_>>());
     let rows = cells.filter(|cells| cells[0].starts_with("| `"));
     rows.map(|cells| (cells[0].trim_matches(['|', ' ', '`']).into(), cells[1].into())).collect()
@@ -28,12 +33,15 @@ fn is_of(value: &Json, kind: &str, page: &str) -> bool {
         None => match (kind, value) {
             ("number", Json::Number(_)) | ("text", Json::Text(_)) => true,
             ("list of numbers", Json::List(items)) => items.iter().all(|item| is_of(item, "number", page)),
-            ("list of segments", Json::List(items)) => {
-                items.iter().all(|item| follows(item, "A segment", page))
-            }
+            ("list of segments", Json::List(items)) => all_follow(items, "A segment", page),
+            ("list of card segments", Json::List(items)) => all_follow(items, "A card segment", page),
             _ => false,
         },
     }
+}
+
+fn all_follow(told: &[Json], title: &str, page: &str) -> bool {
+    told.iter().all(|one| follows(one, title, page))
 }
 
 /// Whether an object has exactly the fields of a section, in its order and of its kinds.
@@ -43,10 +51,11 @@ fn follows(told: &Json, title: &str, page: &str) -> bool {
     named && values.iter().zip(&wanted).all(|((_, value), (_, kind))| is_of(value, kind, page))
 }
 
-/// A run: its words, how many objects it prints, and fields that are null in each.
+/// A run: its words, the section that its objects follow, how many it prints, and fields that are null in each.
 #[derive(Debug, Clone, Copy)]
 struct Run {
     words: &'static str,
+    title: &'static str,
     objects: usize,
     nulls: &'static [&'static str],
 }
@@ -61,31 +70,57 @@ const WITHOUT_KEY: &[&str] = &[
     "coverage",
 ];
 
-const RUNS: [Run; 6] = [
-    Run { words: "analyse two --rate 44100 --json", objects: 1, nulls: &[] },
-    Run { words: "analyse one --rate 44100 --json", objects: 1, nulls: WITHOUT_ALTERNATE },
-    Run { words: "analyse silent --rate 44100 --json-lines", objects: 1, nulls: WITHOUT_KEY },
-    Run { words: "analyse two two --rate 44100 --json-lines", objects: 2, nulls: &[] },
-    Run { words: "analyse missing silent silent --rate 44100 --json", objects: 2, nulls: WITHOUT_KEY },
-    Run {
-        words: "analyse one one missing --rate 44100 --json --jobs 2",
-        objects: 2,
-        nulls: WITHOUT_ALTERNATE,
-    },
+const CARD_WITHOUT_ALTERNATE: &[&str] =
+    &["refusal", "alternate", "alternate_number", "alternate_camelot", "coverage_thousandths"];
+
+#[rustfmt::skip]
+const CARD_WITHOUT_KEY: &[&str] = &[
+    "refusal", "key", "key_number", "camelot", "dsp_key", "dsp_key_number", "alternate", "alternate_number",
+    "alternate_camelot", "coverage_thousandths",
 ];
 
-/// The demo's track in two keys, its front in one, and silence.
+#[rustfmt::skip]
+const NO_CARD: &[&str] = &[
+    "duration_ms", "key", "key_number", "camelot", "dsp_key", "dsp_key_number", "confidence_thousandths", "alternate",
+    "alternate_number", "alternate_camelot", "coverage_thousandths",
+];
+
+const fn of_tracks(words: &'static str, objects: usize, nulls: &'static [&'static str]) -> Run {
+    Run { words, title: TRACK, objects, nulls }
+}
+
+const fn of_cards(words: &'static str, objects: usize, nulls: &'static [&'static str]) -> Run {
+    Run { words, title: CARD, objects, nulls }
+}
+
+const RUNS: [Run; 11] = [
+    of_tracks("analyse two --rate 44100 --json", 1, &[]),
+    of_tracks("analyse one --rate 44100 --json", 1, WITHOUT_ALTERNATE),
+    of_tracks("analyse silent --rate 44100 --json-lines", 1, WITHOUT_KEY),
+    of_tracks("analyse two two --rate 44100 --json-lines", 2, &[]),
+    of_tracks("analyse missing silent silent --rate 44100 --json", 2, WITHOUT_KEY),
+    of_tracks("analyse one one missing --rate 44100 --json --jobs 2", 2, WITHOUT_ALTERNATE),
+    of_cards("card two.card --json", 1, &["refusal"]),
+    of_cards("card one.card missing one.card --json-lines", 2, CARD_WITHOUT_ALTERNATE),
+    of_cards("card silent.card --json-lines", 1, CARD_WITHOUT_KEY),
+    of_cards("card missing silent.card silent.card --json", 2, CARD_WITHOUT_KEY),
+    of_cards("card two silent one --json", 3, NO_CARD),
+];
+
+/// The demo's track in two keys, its front in one, and silence; and a card of each.
 fn filled() -> Folder {
     let folder = Folder::new("tool-json");
     assert!(folder.run(&["demo", "--track", "two"]).status.success(), "the demo's track");
     let two = folder.read("two").expect("the demo's track");
     folder.put("one", &two[..two.len() / 4]);
     folder.put_samples("silent", &[0.0; 16_000]);
+    let words = ["analyse", "one", "two", "silent", "--rate", "44100", "--cards", "."];
+    assert!(folder.run(&words).status.success(), "a card of each");
     folder
 }
 
 /// The objects that a run prints, and nothing else; none where something else is printed.
-fn objects(printed: &str, words: &str) -> Vec<Json> {
+pub fn objects(printed: &str, words: &str) -> Vec<Json> {
     let read: Option<Vec<Json>> = if words.contains("--json-lines") {
         printed.lines().map(Json::read).collect()
     } else {
@@ -99,22 +134,24 @@ fn seen(folder: &Folder, page: &str, run: Run) -> [usize; 3] {
     let ended = folder.run(&run.words.split_whitespace().collect::<Vec<_>>());
     let objects = objects(&text(&ended.stdout), run.words);
     let nulls = |told: &&Json| told.nulls().is_some_and(|names| names == run.nulls);
-    let follow = objects.iter().filter(|told| follows(told, "A track", page)).count();
+    let follow = objects.iter().filter(|told| follows(told, run.title, page)).count();
     [objects.len(), follow, objects.iter().filter(nulls).count()]
 }
 
-/// The page's own example follows it too.
-fn example(page: &str) -> bool {
-    let example = page.split("```json\n").nth(1).and_then(|behind| behind.split("```").next());
-    let told = example.and_then(Json::read);
-    told.is_some_and(|told| {
-        told.list().is_some_and(|tracks| tracks.iter().all(|one| follows(one, "A track", page)))
-    })
+/// The page's own examples follow it too: whether those of tracks do, and those of cards.
+fn examples(page: &str) -> Vec<bool> {
+    let blocks = page.split("```json\n").skip(1).filter_map(|behind| behind.split("```").next());
+    let follows = |(block, title): (&str, &str)| {
+        let told = Json::read(block);
+        told.as_ref().and_then(Json::list).is_some_and(|told| all_follow(told, title, page))
+    };
+    blocks.zip([TRACK, CARD]).map(follows).collect()
 }
 
 pub fn compare(groups: &mut Groups) {
     let (folder, page) = (filled(), page());
     let (ours, wanted) = (|run: Run| seen(&folder, &page, run), |run: Run| [run.objects; 3]);
     groups.group("the tool's JSON beside its page", RUNS.into_iter(), ours, wanted);
-    groups.group("the example of the page on JSON", [0u32].into_iter(), |_| example(&page), |_| true);
+    let examples = |_| examples(&page);
+    groups.group("the examples of the page on JSON", [0u32].into_iter(), examples, |_| vec![true; 2]);
 }

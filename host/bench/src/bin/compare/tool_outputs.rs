@@ -1,5 +1,6 @@
 //! What the tool writes: files where all went well, nothing where something failed, and an end without a crash in
 //! any case.
+use crate::card_reads::ROW_O;
 use crate::groups::{Groups, compared_as_shown, compared_exactly};
 use crate::tool_runs::{Folder, text};
 use std::fs::File;
@@ -39,7 +40,7 @@ struct Writing {
 compared_as_shown!(Full, Writing);
 compared_exactly!(Ended);
 
-const FULL_RUNS: [Full; 8] = [
+const FULL_RUNS: [Full; 11] = [
     Full { words: "analyse good --rate 8000 --card new --svg newer", stdout: true, stderr: false },
     Full { words: "analyse good --rate 8000 --card old", stdout: true, stderr: true },
     Full { words: "analyse good silent --rate 8000 --cards . --json", stdout: true, stderr: false },
@@ -48,6 +49,9 @@ const FULL_RUNS: [Full; 8] = [
     Full { words: "analyse missing --rate 8000 --card new", stdout: false, stderr: true },
     Full { words: "demo --svg new --track newer", stdout: true, stderr: true },
     Full { words: "--help", stdout: true, stderr: true },
+    Full { words: "card o", stdout: true, stderr: false },
+    Full { words: "card o old missing --json", stdout: true, stderr: true },
+    Full { words: "card old", stdout: false, stderr: true },
 ];
 
 const WRITINGS: [Writing; 7] = [
@@ -75,12 +79,13 @@ const WRITINGS: [Writing; 7] = [
     Writing { words: "demo --svg new.svg --track new.f32", cards: &[], pictures: &["new.svg"], new: 2 },
 ];
 
-/// A track, a silent one, a file that is there before with a link to it, a link to nothing, and a folder.
+/// A track, a silent one, a card, a file that is there before with a link to it, a link to nothing, and a folder.
 fn filled() -> Folder {
     let folder = Folder::new("tool-outputs");
     let tone: Vec<f32> = (0..16_000).map(|place| (place as f32 * 0.2).sin()).collect();
     folder.put_samples("good", &tone);
     folder.put_samples("silent", &[0.0; 16_000]);
+    folder.put("o", &ROW_O);
     folder.put("old", b"old");
     folder.permit("old", PERMITTED);
     folder.put_link("link", "old");

@@ -31,7 +31,7 @@ const fn refused(words: &'static str, says: &'static str) -> Case {
 }
 
 /// Commands and options.
-const WORDS: [Case; 30] = [
+const WORDS: [Case; 38] = [
     bad_usage("", "no command"),
     bad_usage("analyze good --rate 8000", "'analyze' is not a command"),
     bad_usage("help analyze", "'analyze' is not a command"),
@@ -62,6 +62,14 @@ const WORDS: [Case; 30] = [
     bad_usage("key-name -1", "'-1' is not a whole number"),
     refused("key-name 24", "24 is no key number"),
     bad_usage("demo good", "no file"),
+    bad_usage("card", "no file"),
+    bad_usage("card good --rate 8000", "'--rate' is not an option"),
+    bad_usage("card good --json=yes", "--json takes no word"),
+    bad_usage("card good --json --json-lines", "one can be had"),
+    bad_usage("card good --notation", "--notation needs"),
+    bad_usage("card good --notation roman", "'roman' is not a notation"),
+    bad_usage("card good --notation flats --json", "--notation goes with"),
+    bad_usage("card - good -", "once"),
 ];
 
 /// Settings: each option with a word that it does not take, and what the library does not take.
@@ -99,7 +107,7 @@ const SETTINGS: [Case; 24] = [
 ];
 
 /// Files that are read or written.
-const FILES: [Case; 42] = [
+const FILES: [Case; 46] = [
     bad_usage("analyse good --rate 8000 --card", "--card needs"),
     bad_usage("analyse good --rate 8000 --svg", "--svg needs"),
     bad_usage("analyse good --rate 8000 --card=", "'' is not the name of a file"),
@@ -145,6 +153,10 @@ const FILES: [Case; 42] = [
     refused("key-at good 99 --rate 8000", "no key at 99 s"),
     refused("key-at good -1 100 --rate 8000", "no key at -1 s, 100 s of 2.00 s"),
     refused("key-at silent 1 --rate 8000", "no key at 1 s"),
+    refused("card missing", "missing: "),
+    refused("card missing --json", "missing: "),
+    refused("card missing circle", "2 of 2 failed: missing, circle"),
+    refused("card .", ".: "),
 ];
 
 /// Files of other kinds, by their first bytes.

@@ -1,12 +1,23 @@
-//! Runs of the tool's program, in a folder of their own.
+//! Runs of the tool's program, in a folder of their own, and of programs on any input.
 use std::collections::BTreeMap;
 use std::ffi::OsStr;
 use std::fs::{self, File, Permissions};
 use std::io::Write;
 use std::os::unix::fs::{MetadataExt, PermissionsExt, symlink};
 use std::path::PathBuf;
-use std::process::{Command, Output, Stdio, id};
+use std::process::{Child, ChildStdin, Command, Output, Stdio, id};
 use std::sync::atomic::{AtomicUsize, Ordering};
+use std::thread::{self, sleep};
+use std::time::{Duration, Instant};
+
+/// Between the pieces of an input, and between looks at a program that runs.
+const PAUSE: Duration = Duration::from_millis(2);
+
+/// A program that takes longer does not end.
+const PATIENCE: Duration = Duration::from_secs(10);
+
+/// So many bytes of an endless input are written, many more than a card has.
+const ENOUGH: usize = 1 << 22;
 
 /// Tells the folders of one run apart.
 static FOLDERS: AtomicUsize = AtomicUsize::new(0);
@@ -15,7 +26,7 @@ static FOLDERS: AtomicUsize = AtomicUsize::new(0);
 pub struct Folder(PathBuf);
 
 /// The programs' own folder.
-fn programs() -> PathBuf {
+pub fn programs() -> PathBuf {
     let this = std::env::current_exe().expect("the comparison's own path");
     this.parent().expect("a program lies in a folder").to_path_buf()
 }
@@ -101,15 +112,62 @@ impl Folder {
 
     /// The same, with samples on standard input.
     pub fn run_on(&self, samples: &[f32], words: &[impl AsRef<OsStr>]) -> Output {
-        let mut command = self.command(words);
-        command.stdin(Stdio::piped()).stdout(Stdio::piped()).stderr(Stdio::piped());
-        let mut running = command.spawn().expect("the tool runs");
-        let mut input = running.stdin.take().expect("a pipe");
-        // a tool that ends early closes the pipe, which its answer tells
-        drop(input.write_all(&bytes(samples)));
-        drop(input);
-        running.wait_with_output().expect("the tool ends")
+        output_on(self.command(words), [&bytes(samples)[..]])
     }
+}
+
+fn started(mut command: Command) -> (Child, ChildStdin) {
+    command.stdin(Stdio::piped()).stdout(Stdio::piped()).stderr(Stdio::piped());
+    let mut running = command.spawn().expect("the program runs");
+    let input = running.stdin.take().expect("a pipe");
+    (running, input)
+}
+
+/// What a program answers to an input that comes in pieces, a little after each other.
+pub fn output_on<'a>(command: Command, pieces: impl IntoIterator<Item = &'a [u8]>) -> Output {
+    let (running, mut input) = started(command);
+    for (nth, piece) in pieces.into_iter().enumerate() {
+        if nth > 0 {
+            sleep(PAUSE);
+        }
+        // a program that ends early closes the pipe, which its answer tells
+        drop(input.write_all(piece));
+    }
+    drop(input);
+    running.wait_with_output().expect("the program ends")
+}
+
+/// Whether a program ends by itself.
+fn ends(running: &mut Child) -> bool {
+    let begun = Instant::now();
+    while running.try_wait().expect("a program that was started").is_none() {
+        if begun.elapsed() > PATIENCE {
+            return false;
+        }
+        sleep(PAUSE);
+    }
+    true
+}
+
+/// What a program answers to an input that never ends, zeros behind its front and then nothing more by an open pipe;
+/// none where it does not end by itself.
+pub fn output_on_endless(command: Command, front: &[u8]) -> Option<Output> {
+    let (mut running, mut input) = started(command);
+    let ended = thread::scope(|scope| {
+        let writing = scope.spawn(move || {
+            // a program that ends closes the pipe, which its answer tells
+            drop(input.write_all(front).and_then(|()| input.write_all(&vec![0; ENOUGH])));
+            input
+        });
+        let ended = ends(&mut running);
+        if !ended {
+            running.kill().expect("a program that was started");
+        }
+        drop(writing.join().expect("no thread failed"));
+        ended
+    });
+    let output = running.wait_with_output().expect("the program ends");
+    ended.then_some(output)
 }
 
 fn bytes(samples: &[f32]) -> Vec<u8> {

@@ -1,6 +1,7 @@
 //! Our leaves beside the hardware's and our calls beside the oracle's, on the same inputs, topic by topic.
 #[cfg(oracle)]
 mod analyses;
+mod cards;
 #[cfg(oracle)]
 mod filters;
 #[cfg(oracle)]
@@ -53,6 +54,7 @@ const TOPICS: &[Topic] = &[
     ("analyses", analyses::print_rows),
     #[cfg(oracle)]
     ("growth", growth::print_rows),
+    ("cards", cards::print_rows),
 ];
 
 /// The topic of this name alone.

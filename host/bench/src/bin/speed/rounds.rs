@@ -19,8 +19,7 @@ fn middle(mut values: Vec<f64>) -> f64 {
 }
 
 /// The median of so many times.
-#[cfg(oracle)]
-pub fn median_of(rounds: usize, time: impl Fn() -> f64) -> f64 {
+pub fn median_of(rounds: usize, mut time: impl FnMut() -> f64) -> f64 {
     middle((0..rounds).map(|_| time()).collect())
 }
 
@@ -65,7 +64,7 @@ pub fn header(what: &str, theirs: &str) {
 }
 
 /// How long the work takes, to the end of what it makes.
-pub fn seconds<A>(work: impl Fn() -> A) -> f64 {
+pub fn seconds<A>(work: impl FnOnce() -> A) -> f64 {
     let begun = Instant::now();
     black_box(work());
     begun.elapsed().as_secs_f64()

@@ -1,0 +1,81 @@
+//! What the lister prints of its input, beside the request's words.
+use crate::card_breaches::{BREACHES, broken, good};
+use crate::card_model::listing;
+use crate::card_reads::{ROW_O, ROW_P, largest};
+use crate::groups::Groups;
+use crate::tool_runs::{output_on, output_on_endless, programs, text};
+use std::path::PathBuf;
+use std::process::{Command, Output};
+use ulyptesh::calls::LONGEST_CARD;
+
+/// Streams of the seed from here on.
+const STREAM: u64 = 290_000;
+
+/// The program, where it was built.
+fn program() -> Option<PathBuf> {
+    let place = programs().join("../../bin/lister");
+    place.exists().then_some(place)
+}
+
+/// What is printed; where the program fails or complains, how.
+fn printed(ended: &Output) -> String {
+    if ended.status.code().is_some() && ended.stderr.is_empty() {
+        text(&ended.stdout)
+    } else {
+        format!("{ended:?}")
+    }
+}
+
+/// Cards of any number of segments, the largest, rows o and p, and each rule broken.
+pub fn cards(seed: u64) -> impl Iterator<Item = Vec<u8>> {
+    let counts = (0..40).chain([100, 500, 1_022, 1_023]);
+    let whole = counts.zip(STREAM..).map(move |(count, stream)| good(seed, stream, count));
+    let whole = whole.chain([largest()]).map(|said| said.joined()).chain([ROW_O.to_vec(), ROW_P.to_vec()]);
+    let breached = BREACHES.iter().zip(STREAM..);
+    whole.chain(breached.map(move |(breach, stream)| broken(seed, stream, breach).0.joined()))
+}
+
+/// Bytes that are no card: of every small length, of every other layout, longer than the card and than any card, and
+/// with a filler bit.
+pub fn no_cards() -> impl Iterator<Item = Vec<u8>> {
+    let cut = (0..ROW_O.len()).map(|length| ROW_O[..length].to_vec());
+    let layouts = (0..16).filter(|&layout| layout != 1);
+    let layouts = layouts.map(|layout| [&[layout << 4 | ROW_O[0] & 0xf], &ROW_O[1..]].concat());
+    let lengths = [1, LONGEST_CARD - ROW_O.len(), LONGEST_CARD + 1 - ROW_O.len(), LONGEST_CARD, 1 << 20];
+    let longer = lengths.map(|more| [&ROW_O[..], &vec![0; more]].concat());
+    let filled = [0x01, 0x40].map(|bit| [&ROW_P[..ROW_P.len() - 1], &[bit]].concat());
+    let above_largest = [&largest().joined()[..], &[0]].concat();
+    cut.chain(layouts).chain(longer).chain(filled).chain([above_largest, vec![0xff; 1 << 16]])
+}
+
+/// What stands before the zeros of an endless input.
+pub fn endless_fronts() -> [Vec<u8>; 5] {
+    [vec![], ROW_O.to_vec(), ROW_P.to_vec(), largest().joined(), vec![0xff; LONGEST_CARD + 1]]
+}
+
+/// What is printed of such an input: more zeros than a card has bytes tell all.
+pub fn endless_listing(front: &[u8]) -> String {
+    listing(&[front, &[0; LONGEST_CARD + 1]].concat())
+}
+
+pub fn compare(groups: &mut Groups) {
+    let Some(program) = program() else {
+        return println!("lister: left out, as the program is not there");
+    };
+    let on = |bytes: &[u8]| printed(&output_on(Command::new(&program), [bytes]));
+    let by_byte = |bytes: Vec<u8>| printed(&output_on(Command::new(&program), bytes.chunks(1)));
+    let by_part = |bytes: Vec<u8>| printed(&output_on(Command::new(&program), bytes.chunks(700)));
+    let rows = [(ROW_O.to_vec(), "A minor\n0 180000 A minor\n"), (ROW_P.to_vec(), "no key\n")];
+    let nth_row = |nth: usize| rows[nth].1.to_string();
+    groups.group("the lister on rows o and p", 0..rows.len(), |nth| on(&rows[nth].0), nth_row);
+    let seed = groups.seed;
+    let listed = |bytes: Vec<u8>| listing(&bytes);
+    groups.group("the lister on cards", cards(seed), |bytes| on(&bytes), listed);
+    groups.group("the lister on no cards", no_cards(), |bytes| on(&bytes), listed);
+    groups.group("the lister, byte by byte", rows.iter().map(|row| row.0.clone()), by_byte, listed);
+    groups.group("the lister, part by part", [largest().joined()].into_iter(), by_part, listed);
+    let on_endless =
+        |front: Vec<u8>| output_on_endless(Command::new(&program), &front).map(|ended| printed(&ended));
+    let stops = |front: Vec<u8>| Some(endless_listing(&front));
+    groups.group("the lister on endless input", endless_fronts().into_iter(), on_endless, stops);
+}

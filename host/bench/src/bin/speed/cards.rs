@@ -1,0 +1,73 @@
+//! Key cards read, and written again from what was read: nanoseconds for one card. The Rust has no cards, so nothing
+//! stands beside them.
+use crate::rounds::{median_of, seconds};
+use bench::calls::{CardRead, PackedFields, read_card, write_packed_card};
+use ulyptesh::calls::LONGEST_CARD;
+
+/// Segments of a card, and how many cards are a round.
+const CARDS: [(usize, usize); 2] = [(5, 100_000), (1_023, 1_000)];
+
+const ROUNDS: usize = 7;
+
+/// So many milliseconds of a segment.
+const LENGTH: u32 = 14_000;
+
+/// Rows for segments.
+struct Rows {
+    starts: Vec<u32>,
+    ends: Vec<u32>,
+    keys: Vec<u8>,
+    confidences: Vec<u16>,
+}
+
+impl Rows {
+    /// Segments of one length, in all keys in turn.
+    fn new(count: usize) -> Self {
+        let borders = |first: u32| (first..).map(|border| border * LENGTH).take(count).collect();
+        Self {
+            starts: borders(0),
+            ends: borders(1),
+            keys: (0..24).cycle().take(count).collect(),
+            confidences: (0..1_000).cycle().take(count).collect(),
+        }
+    }
+
+    fn read(&mut self, card: &[u8]) -> CardRead {
+        read_card(card, &mut self.starts, &mut self.ends, &mut self.keys, &mut self.confidences)
+    }
+
+    fn write(&self, bytes: &mut [u8]) -> usize {
+        let fields = PackedFields {
+            key: 0,
+            dsp_key: 0,
+            alternate: 1,
+            coverage: 250,
+            confidence: 500,
+            starts: &self.starts,
+            ends: &self.ends,
+            keys: &self.keys,
+            confidences: &self.confidences,
+        };
+        write_packed_card(&fields, bytes).length
+    }
+}
+
+/// Nanoseconds of one turn.
+fn nanoseconds(turns: usize, mut turn: impl FnMut() -> u64) -> f64 {
+    median_of(ROUNDS, || seconds(|| (0..turns).map(|_| turn()).sum::<u64>()) * 1e9 / turns as f64)
+}
+
+fn print_row(count: usize, turns: usize) {
+    let (mut rows, mut card) = (Rows::new(count), vec![0; LONGEST_CARD]);
+    let length = rows.write(&mut card);
+    card.truncate(length);
+    assert_eq!(rows.read(&card).segments, count as u64);
+    let reading = nanoseconds(turns, || rows.read(&card).segments);
+    let writing = nanoseconds(turns, || rows.write(&mut card) as u64);
+    println!("{:30} {reading:10.1} {writing:10.1}", format!("{count} segments"));
+}
+
+pub fn print_rows() {
+    println!("{:30} {:>10} {:>10}", "ns for one card, ours alone", "read", "written");
+    CARDS.into_iter().for_each(|(count, turns)| print_row(count, turns));
+}
