@@ -6,7 +6,6 @@ use crate::analysis_left;
 use crate::cards::packed;
 use crate::frame_calls::{self, BREACHES, whole};
 use crate::groups::Groups;
-use bench::calls::{CardRead, PackedFields, read_card, write_packed_card};
 use bench::inputs::chromas::plain_kinds;
 use bench::inputs::dice::Dice;
 use bench::inputs::tracks::{KINDS, Maker};
@@ -17,6 +16,7 @@ use std::hint::black_box;
 use std::sync::Arc;
 use std::thread;
 use ulyptesh::calls::{self, KEYS, LONGEST_NAME, Sheet, analyse, frames, write_card, write_key_name};
+use ulyptesh::calls::{CardRead, PackedFields, read_card, write_packed_card};
 
 /// Streams of the seed from here on.
 const STREAM: u64 = 96_000;

@@ -2,7 +2,7 @@
 use crate::card_model::{Meaning, Segment, TOO_FEW_ROWS};
 use crate::cards;
 use crate::groups::{Compared, compared_as_shown};
-use bench::calls::{CardRead, PackedFields, read_card, write_packed_card};
+use ulyptesh::calls::{CardRead, PackedFields, read_card, write_packed_card};
 
 /// Rows behind those that are lent.
 const BEYOND: usize = 2;

@@ -1,8 +1,8 @@
 //! Key cards read, and written again from what was read: nanoseconds for one card. The Rust has no cards, so nothing
 //! stands beside them.
 use crate::rounds::{median_of, seconds};
-use bench::calls::{CardRead, PackedFields, read_card, write_packed_card};
 use ulyptesh::calls::LONGEST_CARD;
+use ulyptesh::calls::{CardRead, PackedFields, read_card, write_packed_card};
 
 /// Segments of a card, and how many cards are a round.
 const CARDS: [(usize, usize); 2] = [(5, 100_000), (1_023, 1_000)];
