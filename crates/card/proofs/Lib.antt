@@ -1,2 +1,3 @@
 -- What the rules give.
 pub mod Fits
+pub mod Judged

@@ -1,9 +1,9 @@
--- `card::card_size` meets its contract.
+-- No sum leaves its type, since counts are below 2 ^ 32.
 use native.Mathlib.Omega.{arith}
 use borrow.Author.Needs.{needs}
 use Rattle.bits.proofs.Digits.{few-bits}
-use Rattle.card_writer.proofs.fields.card_size.Statement.{statement}
-use Rattle.card_writer.proofs.fields.card_size.Tie as tie
+use Rattle.card_form.proofs.card_size.Statement.{statement}
+use Rattle.card_form.proofs.card_size.Tie as tie
 
 add-result : tie.Need-add-result
 add-result c = search needs

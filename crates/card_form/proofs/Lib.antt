@@ -1,0 +1,2 @@
+-- What is known of the form of a card.
+pub mod Lengths
