@@ -42,7 +42,8 @@ pub fn count_on(bytes: &[u8], l: Layout) -> usize
     requires { ⌜ LayoutFits l × (headerWidth l ≤ length (now bytes) * 8) ⌝ }
     ensures { λ r. ⌜ (r ≡ countOn l (bitsOfBytes (now (bytes .entry)))) × (r < 2 ^ 32) ⌝ }
 {
-    get_bits(bytes, 39, l.count) as usize
+    let number = get_bits(bytes, 0, 39 + l.count);
+    field(number, 0, l.count) as usize
 }
 
 // Segment i.

@@ -82,7 +82,10 @@ pub fn read_card(
 ) -> CardRead
     ensures { λ r. ⌜ readOutcome r (lentCardRows (starts .exit) (ends .exit) (keys .exit) (confidences .exit)) ≡ readCall (now (bytes .entry)) (lentCardRows (starts .entry) (ends .entry) (keys .entry) (confidences .entry)) ⌝ }
 {
-    let rows = fewer(starts.len(), fewer(ends.len(), fewer(keys.len(), confidences.len())));
+    let rows = fewer(
+        starts.len(),
+        fewer(ends.len(), fewer(keys.len(), confidences.len())),
+    );
     let judged = judge_card(bytes, rows);
     match judged {
         CardJudged::Refused(number) => unread_card(number),
