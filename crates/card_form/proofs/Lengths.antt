@@ -1,7 +1,7 @@
 -- How long a card and its parts are.
 use mathlib.Core.Path.{_≡_, refl, sym, ap, _∙_, subst}
 use mathlib.Core.List.{List, [], _∷_, _++_, append-assoc, append-nil}
-use Prim.Native.Nat.{ℕ, _+_, _*_, _^_, _≤_, _<_}
+use Prim.Native.Nat.{ℕ, _+_, _*_, _≤_, _<_}
 use native.Mathlib.Nat.{suc-mul, mul-le-mul-right}
 use native.Mathlib.Numerals.{add-one}
 use native.Mathlib.Omega.{arith}
@@ -46,7 +46,7 @@ segments-append l (x ∷ xs) ys = ap (λ (bits : List ℕ). segmentBits l x ++ b
 -- one segment more
 pub one-more : (l : Layout) (at : ℕ → Segment) (i : ℕ) → segmentsBits l (list at (i + 1)) ≡ segmentsBits l (list at i) ++ segmentBits l (at i)
 unfolding segmentsBits list
-one-more l at i = ap (λ (n : ℕ). segmentsBits l (list at n)) (add-one i) ∙ rw (segments-append l (list at i) (at i ∷ []), append-nil)
+one-more l at i = ap (λ (n : ℕ). segmentsBits l (list at n)) (add-one i) ∙ rw (segments-append l (list at i) (at i ∷ []), append-nil (segmentBits l (at i)))
 
 -- before the last of equal steps there is room for one more
 pub one-more-fits : (i count width : ℕ) → i < count → i * width + width ≤ count * width

@@ -1,12 +1,12 @@
 -- A header's and a segment's fields, from the one number that was read of them.
-use mathlib.Core.Path.{_≡_, refl, sym, ap, _∙_}
+use mathlib.Core.Path.{_≡_, sym, ap, _∙_}
 use mathlib.Core.List.{List}
-use Prim.Native.Nat.{ℕ, _+_, _*_, _/_, _%_, _^_, _≤_, _<_}
-use native.Mathlib.Nat.{mod-lt, lt-of-lt-of-le, div-one}
+use Prim.Native.Nat.{ℕ, _+_, _/_, _%_, _^_, _≤_, _<_}
+use native.Mathlib.Nat.{mod-lt, lt-of-lt-of-le}
 use native.Mathlib.Omega.{arith}
 use lib.ListN.{length, drop, getD, length-drop}
 use lib.Pow.{pow-pos, pow-mono}
-use Rattle.bits.specs.Bits.{fieldAt, fieldsOf}
+use Rattle.bits.specs.Bits.{fieldAt}
 use Rattle.bits.proofs.Binary.{Binary, binary-drop}
 use Rattle.bits.proofs.Fields.{total, fieldsIn, fields-of-number}
 use Rattle.card.specs.declared.layout.Layout.{Layout}

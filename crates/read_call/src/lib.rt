@@ -1,5 +1,6 @@
 // The call "read a card", whole.
 ghost use mathlib.Core.Path.{_≡_};
+ghost use Prim.Native.Nat.{_^_, _<_};
 ghost use Rattle.laws.specs.Front.{list};
 ghost use Rattle.bits.specs.Bits.{bitsOfBytes};
 ghost use Rattle.card_form.specs.Form.{segmentOn};
@@ -40,6 +41,22 @@ fn unread_card(refusal: u32) -> CardRead
         coverage: 0,
         confidence: 0,
         segments: 0,
+    }
+}
+
+// The answer of a card that is read, from its header and its segment count.
+fn read_answer(h: Header, count: usize) -> CardRead
+    requires { ⌜ (h .key < 2 ^ 32) × (h .dsp < 2 ^ 32) × (h .alternate < 2 ^ 32) × (h .coverage < 2 ^ 32) × (h .confidence < 2 ^ 32) ⌝ }
+    ensures { λ r. ⌜ r ≡ readAnswer h count ⌝ }
+{
+    CardRead {
+        refusal: 0,
+        key: h.key as u32,
+        dsp_key: h.dsp as u32,
+        alternate: h.alternate as u32,
+        coverage: h.coverage as u32,
+        confidence: h.confidence as u32,
+        segments: count as u64,
     }
 }
 

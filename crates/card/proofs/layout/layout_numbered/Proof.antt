@@ -1,12 +1,8 @@
 -- The number is the layout's own, or that of none in the list.
-use mathlib.Core.Path.{_≡_, sym, ap, _∙_}
-use mathlib.Core.Bool.{Bool, cond}
+use mathlib.Core.Path.{ap, _∙_}
 use borrow.Author.Needs.{needs}
 use borrow.Author.Tests.{eq-eqb, ne-eqb}
-use Rattle.card.specs.Layout.{layout1}
-use Rattle.card.specs.declared.layout.Layout.{Layout}
-use Rattle.card.specs.declared.layout.Numbered.{Numbered}
-use Rattle.card.specs.declared.layout.Numbered.the-variants.{Known, Unknown}
+use Rattle.card.specs.declared.layout.Numbered.the-variants.{Known}
 use Rattle.card.proofs.layout.layout_numbered.Statement.{statement}
 use Rattle.card.proofs.layout.layout_numbered.Tie as tie
 

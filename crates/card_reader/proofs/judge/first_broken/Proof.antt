@@ -1,6 +1,5 @@
 -- The run over the segments as they stand on the card.
-use mathlib.Core.Path.{_≡_, _∙_}
-use Prim.Native.Nat.{ℕ, _+_, _-_, _*_, _<_}
+use Prim.Native.Nat.{ℕ, _-_}
 use native.Mathlib.Omega.{arith}
 use Rattle.bits.specs.Bits.{bitsOfBytes}
 use borrow.Author.Needs.{needs}

@@ -1,5 +1,5 @@
 -- Header and segments are judged as the card's meaning has them.
-use mathlib.Core.Path.{_≡_, ap, ap₂, _∙_, subst}
+use mathlib.Core.Path.{_≡_}
 use mathlib.Core.Bool.{Bool, _||_}
 use Prim.Native.Nat.{ℕ}
 use lib.Dec.{ltb}

@@ -1,6 +1,6 @@
 -- Each return is a row of the table, those above it having failed.
-use mathlib.Core.Path.{_≡_, refl, sym, ap, ap₂, _∙_, subst}
-use mathlib.Core.Bool.{Bool, true, false, not, _&&_, _||_}
+use mathlib.Core.Path.{_≡_, sym, ap, ap₂, _∙_, subst}
+use mathlib.Core.Bool.{Bool, false, not, _&&_, _||_}
 use mathlib.Core.List.{List}
 use Prim.Native.Nat.{ℕ, _≤_, _<_}
 use native.Mathlib.Omega.{arith}
@@ -13,12 +13,12 @@ use Rattle.bits.specs.Bits.{bitsOfBytes}
 use Rattle.card.specs.Layout.{layouts, numberedIn, isKnown, layoutOr1}
 use Rattle.card.specs.Rules.{cardBroken}
 use Rattle.card.specs.declared.layout.Layout.{Layout}
-use Rattle.card.specs.declared.layout.Numbered.{Numbered}
 use Rattle.card.proofs.Known.{Sound, found-sound}
-use Rattle.card_form.specs.Form.{headerWidth, cardSize, numberOn, countOn, meaningOn, fillerSet}
+use Rattle.card_form.specs.Form.{cardSize, numberOn, countOn, meaningOn, fillerSet}
 use Rattle.card_reader.specs.Reading.{layoutOn, table, judgedOf}
 use Rattle.card_reader.specs.declared.judge.CardJudged.{CardJudged}
 use Rattle.card_reader.specs.declared.judge.CardJudged.the-variants.{Readable}
+use Rattle.card_reader.proofs.Ready.{known-length}
 use Rattle.card_reader.proofs.judge.judge_card.Statement.{statement}
 use Rattle.card_reader.proofs.judge.judge_card.Tie as tie
 
@@ -99,13 +99,6 @@ returns-3 : tie.Need-returns-3
 returns-3 c =
     let size = c .before .before in
     judged (bytes (layout size)) (start (layout size) .args .rows) (next (long size) (next (of-length size (c .before .if2 .left)) (here (told-not (known-is (layout size)) (c .if3 .taken)))))
-
--- where the layout is known, the length is the card's
-known-length : (known same : Bool) → known && not same ≡ false → not known ≡ false → same ≡ true
-known-length true true e k = refl
-known-length true false e k = sym e
-known-length false true e k = refl
-known-length false false e k = sym k
 
 -- behind the third row: the whole card is there
 module _ (c : tie.Else3) where

@@ -1,12 +1,8 @@
 -- The header is read as one number, and that taken apart.
-use mathlib.Core.Path.{_≡_, sym, ap, _∙_}
-use Prim.Native.Nat.{ℕ, _+_, _*_, _≤_}
-use lib.ListN.{length}
 use borrow.Author.Needs.{needs}
 use Rattle.bits.specs.Bits.{bitsOfBytes}
 use Rattle.bits.proofs.Binary.{binary-bytes}
 use Rattle.bits.proofs.Digits.{length-bytes}
-use Rattle.card_form.specs.Form.{headerWidth}
 use Rattle.card_reader.proofs.Apart.{header-parts}
 use Rattle.card_reader.proofs.on_card.header_on.Statement.{statement}
 use Rattle.card_reader.proofs.on_card.header_on.Tie as tie

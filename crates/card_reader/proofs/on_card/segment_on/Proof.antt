@@ -1,8 +1,6 @@
 -- The segment is read as one number, and that taken apart.
-use mathlib.Core.Path.{_≡_, sym, _∙_}
-use Prim.Native.Nat.{ℕ, _+_, _*_, _^_, _≤_}
+use Prim.Native.Nat.{_+_, _*_, _^_, _≤_}
 use native.Mathlib.Omega.{arith}
-use lib.ListN.{length}
 use borrow.Author.Needs.{needs}
 use Rattle.bits.specs.Bits.{bitsOfBytes}
 use Rattle.bits.proofs.Binary.{binary-bytes}
