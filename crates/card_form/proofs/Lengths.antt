@@ -51,4 +51,3 @@ one-more l at i = ap (λ (n : ℕ). segmentsBits l (list at n)) (add-one i) ∙ 
 -- before the last of equal steps there is room for one more
 pub one-more-fits : (i count width : ℕ) → i < count → i * width + width ≤ count * width
 one-more-fits i count width h = subst (λ (n : ℕ). n ≤ count * width) (suc-mul i width) (mul-le-mul-right width h)
-
