@@ -1,2 +1,3 @@
 -- What is known of the form of a card.
 pub mod Lengths
+pub mod ReadBack

@@ -1,9 +1,11 @@
 -- Each field joined to those before it adds its bits to theirs.
+use mathlib.Core.Path.{_∙_}
+use mathlib.Core.List.{append-assoc, append-nil}
 use Prim.Native.Nat.{_+_}
 use native.Mathlib.Omega.{arith}
 use Rattle.bits.proofs.Digits.{bits-joined, bits-own, shift-fits}
-use Rattle.card_writer.proofs.fields.segment_number.Statement.{statement}
-use Rattle.card_writer.proofs.fields.segment_number.Tie as tie
+use Rattle.card_pen.proofs.fields.segment_number.Statement.{statement}
+use Rattle.card_pen.proofs.fields.segment_number.Tie as tie
 
 joined-requires : tie.Need-joined-requires
 joined-requires c κs =
@@ -24,7 +26,8 @@ returns c =
     let start = c .before .before in
     let fits = start .pre .1 in
     let keyed = bits-joined 5 (bits-own (start .args .l .end) (fits .end)) (fits .key) (c .before .joined .ensures) in
-    bits-joined 10 keyed (fits .confidence) (c .joined2 .ensures)
+    let all = bits-joined 10 keyed (fits .confidence) (c .joined2 .ensures) in
+    record { fits = all .fits; same = all .same ∙ simp (append-assoc, append-nil) }
 
 pub segment-number-spec : {M : Type 1} → statement M
 segment-number-spec = tie.close (tie.spec joined-requires joined-requires-2 returns)

@@ -1,13 +1,14 @@
 -- Each field joined to those before it adds its bits to theirs.
-use mathlib.Core.List.{_++_}
+use mathlib.Core.Path.{_∙_}
+use mathlib.Core.List.{_++_, append-assoc, append-nil}
 use native.Mathlib.Omega.{arith}
 use borrow.Author.Needs.{needs}
 use Rattle.bits.specs.Bits.{bitsOf, HasBits}
 use Rattle.card.specs.declared.layout.Layout.{Layout}
 use Rattle.card.specs.declared.layout.Header.{Header}
 use Rattle.bits.proofs.Digits.{bits-joined, bits-own, shift-fits}
-use Rattle.card_writer.proofs.fields.header_number.Statement.{statement}
-use Rattle.card_writer.proofs.fields.header_number.Tie as tie
+use Rattle.card_pen.proofs.fields.header_number.Statement.{statement}
+use Rattle.card_pen.proofs.fields.header_number.Tie as tie
 
 joined-requires : tie.Need-joined-requires
 joined-requires c κs = search needs
@@ -53,7 +54,9 @@ joined-requires-6 c κs = (
 )
 
 returns : tie.Need-returns
-returns c = bits-joined (l (c .before) .count) (front (c .before)) (start (c .before) .pre .1 .count) (c .joined6 .ensures)
+returns c =
+    let all = bits-joined (l (c .before) .count) (front (c .before)) (start (c .before) .pre .1 .count) (c .joined6 .ensures) in
+    record { fits = all .fits; same = all .same ∙ simp (append-assoc, append-nil) }
 
 pub header-number-spec : {M : Type 1} → statement M
 header-number-spec =

@@ -1,9 +1,7 @@
-// A card's fields, joined into numbers, and how many bytes they take.
-ghost use mathlib.Core.Path.{_≡_};
-ghost use Prim.Native.Nat.{_^_, _<_};
+// A card's fields, joined into numbers.
 ghost use Rattle.bits.specs.Bits.{HasBits};
 ghost use Rattle.card.specs.Layout.{LayoutFits, HeaderFits, SegmentFits};
-ghost use Rattle.card_writer.specs.Form.{headerWidth, headerBits, segmentWidth, segmentBits, cardSize};
+ghost use Rattle.card_form.specs.Form.{headerWidth, headerBits, segmentWidth, segmentBits};
 use bits::masks::joined;
 use card::layout::Header;
 use card::layout::Layout;
@@ -29,12 +27,4 @@ pub fn segment_number(l: Layout, s: Segment) -> u64
 {
     let keyed = joined(s.end, 5, s.key);
     joined(keyed, 10, s.confidence)
-}
-
-// How many bytes a card of `count` segments has.
-pub fn card_size(l: Layout, count: usize) -> usize
-    requires { ⌜ LayoutFits l × (count < 2 ^ 32) ⌝ }
-    ensures { λ r. ⌜ r ≡ cardSize l count ⌝ }
-{
-    (39 + l.count + count * (l.end + 5 + 10) + 7) / 8
 }
