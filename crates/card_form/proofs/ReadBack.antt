@@ -77,7 +77,7 @@ module _ (l : Layout) (m : Meaning) (layout : LayoutFits l) (fits : CardFits l m
   unfolding headerOn
   header-read = rw (field-is 1, field-is 2, field-is 3, field-is 4, field-is 5)
 
-  count-read : countOn l bits ≡ length ss
+  pub count-read : countOn l bits ≡ length ss
   unfolding countOn
   count-read = field-is 6
 

@@ -47,7 +47,7 @@ found-known {found = Unknown} t e = absurd (no-more t)
     no-more q = let z : _≡_ {A = ℕ} 0 1 = cc in omega arith
 
 -- where the layout is known, the length is its own
-pub known-length : (known same : Bool) → known && not same ≡ false → not known ≡ false → same ≡ true
+known-length : (known same : Bool) → known && not same ≡ false → not known ≡ false → same ≡ true
 known-length true same e k = not-false same e
 known-length false true e k = refl
 known-length false false e k = sym k

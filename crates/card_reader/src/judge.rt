@@ -64,15 +64,16 @@ pub fn judge_card(bytes: &[u8], rows: usize) -> CardJudged
     let found = layout_numbered(number_on(bytes));
     let known = is_known(found);
     let l = layout_or_1(found);
-    if bytes.len() < 7 {
-        return CardJudged::Refused(20);
-    }
-    let count = count_on(bytes, l);
-    if known & !(bytes.len() == card_size(l, count)) {
+    let short = bytes.len() < 7;
+    if short {
         return CardJudged::Refused(20);
     }
     if !known {
         return CardJudged::Refused(21);
+    }
+    let count = count_on(bytes, l);
+    if !(bytes.len() == card_size(l, count)) {
+        return CardJudged::Refused(20);
     }
     if is_broken(bytes, l, count) | filler_set(bytes, l, count) {
         return CardJudged::Refused(22);

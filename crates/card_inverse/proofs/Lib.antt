@@ -1,0 +1,2 @@
+-- That reading is the inverse of writing.
+pub mod Inverse
