@@ -1,5 +1,6 @@
 -- Laws of the pen that puts a card, whose segment i is `at i`.
 use mathlib.Core.Path.{_≡_, sym, ap, _∙_, subst}
+use mathlib.Core.Bool.{false}
 use mathlib.Core.List.{List, _++_}
 use Prim.Native.Nat.{ℕ, _+_, _*_, _^_, _≤_, _<_}
 use native.Mathlib.Omega.{arith}
@@ -11,11 +12,12 @@ use Rattle.bits.specs.inside.Pens.{PenReady, BitsPut, bitCount, freshPen}
 use Rattle.bits.specs.declared.pen.Pen.{Pen}
 use Rattle.bits.proofs.Digits.{length-bits, length-cut}
 use Rattle.bits.proofs.Puts.{put-none, put-put, put-all}
-use Rattle.card.specs.Layout.{HeaderFits, SegmentFits}
+use Rattle.card.specs.Layout.{LayoutFits, HeaderFits, SegmentFits}
+use Rattle.card.specs.Rules.{cardBroken}
 use Rattle.card.specs.declared.layout.Layout.{Layout}
 use Rattle.card.specs.declared.layout.Header.{Header}
 use Rattle.card.specs.declared.layout.Segment.{Segment}
-use Rattle.card.proofs.Fits.{CardFits, card-fits}
+use Rattle.card.proofs.Fits.{CardFits, card-fits, few-segments}
 use Rattle.card_form.specs.Form.{headerBits, headerWidth, segmentBits, segmentWidth, segmentsBits, segmentPlace, cardBits, cardBytes, cardSize}
 use Rattle.card_form.proofs.Lengths.{length-header, length-segments, length-card-bits, length-card, one-more, one-more-fits}
 use Rattle.card_pen.specs.inside.Putting.{CanStart, CanPutSegment, CanPutSegments, CanEnd, CanWrite, fillerWidth, saying}
@@ -66,15 +68,23 @@ module _ (l : Layout) (h : Header) (at : ℕ → Segment) (n : ℕ) where
   pub card-length : length (cardBytes l (saying h at n)) ≡ cardSize l n
   card-length = length-card l (saying h at n) ∙ ap (cardSize l) counted
 
-  module _ {bytes : List ℕ} (can : CanWrite bytes l h at n) where
+  -- where no rule is broken, its numbers fit, and the segments are few
+  module _ (layout : LayoutFits l) (good : cardBroken l (saying h at n) ≡ false) where
     all-fit : CardFits l (saying h at n)
-    all-fit = card-fits l (saying h at n) (can .layout) (can .good)
+    all-fit = card-fits l (saying h at n) layout good
 
-    pub header-fits : HeaderFits l h n
+    header-fits : HeaderFits l h n
     header-fits = subst (HeaderFits l h) counted (all-fit .header)
 
+    segments-fit : (i : ℕ) → i < n → SegmentFits l (at i)
+    segments-fit i less = subst (SegmentFits l) (getD-list at n i _ less) (all-fit .segment i (rw counted less))
+
+    pub few-written : n < 2 ^ 32
+    few-written = few-segments l h n layout header-fits
+
+  module _ {bytes : List ℕ} (can : CanWrite bytes l h at n) where
     pub can-start : CanStart bytes l h n
-    can-start = record { layout = can .layout; fits = header-fits; room = omega (arith, can .room) }
+    can-start = record { layout = can .layout; fits = header-fits (can .layout) (can .good); room = omega (arith, can .room) }
 
     module _ {headed : List ℕ} {first : Pen} (header : BitsPut bytes headed freshPen first (headerBits l h n)) where
       header-place : bitCount first ≡ headerWidth l
@@ -84,7 +94,7 @@ module _ (l : Layout) (h : Header) (at : ℕ → Segment) (n : ℕ) where
       can-put = record {
         ready = header .ready;
         layout = can .layout;
-        fit = λ i less. subst (SegmentFits l) (getD-list at n i _ less) (all-fit .segment i (rw counted less));
+        fit = segments-fit (can .layout) (can .good);
         room = omega (arith, header-place, can .room, header .size);
       }
 
