@@ -1,0 +1,3 @@
+-- What the functions' proofs share, on plain lists.
+mod Behind
+mod Decimals

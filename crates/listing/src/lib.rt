@@ -1,0 +1,2 @@
+// What the lister prints of a card.
+pub mod lines;
