@@ -17,6 +17,9 @@ at-start m = record { size = refl; here = refl }
 abbrev pub rest : List ℕ → ℕ → List ℕ
 rest now at = take (length now - at) (drop at now)
 
+pub rest-long : (now : List ℕ) (at : ℕ) → length (rest now at) ≡ length now - at
+rest-long now at = simp (length-take, length-drop) (omega arith)
+
 -- the slice once the rest is back
 abbrev pub back : List ℕ → ℕ → List ℕ → List ℕ
 back now at part = take at now ++ (part ++ drop (length now - at) (drop at now))

@@ -1,3 +1,6 @@
 -- What the functions' proofs share, on plain lists.
 mod Behind
 mod Decimals
+mod Sizes
+mod Segments
+mod Whole

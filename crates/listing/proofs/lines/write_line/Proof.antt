@@ -1,19 +1,14 @@
 -- Start, end and key, each behind what stands before it.
 use borrow.Author.Needs.{needs}
-use mathlib.Core.Path.{_≡_}
 use mathlib.Core.List.{_++_, append-assoc}
-use Prim.Native.Nat.{ℕ, _+_, _≤_}
+use Prim.Native.Nat.{_≤_}
 use native.Mathlib.Omega.{arith}
 use lib.ListN.{length, length-append}
 use Rattle.listing.specs.Lines.{blank, numberThen, keyLine, lineOf}
 use Rattle.listing.proofs.Behind.{same-size, inside, room-behind, part-behind, as-list}
+use Rattle.listing.proofs.Sizes.{line-length}
 use Rattle.listing.proofs.lines.write_line.Statement.{statement}
 use Rattle.listing.proofs.lines.write_line.Tie as tie
-
--- the parts of a line have the line's length
-line-length : (start end key : ℕ) → length (lineOf start end key) ≡ length (numberThen start blank) + (length (numberThen end blank) + length (keyLine key))
-unfolding lineOf
-line-length start end key = simp length-append
 
 write-number-requires : tie.Need-write-number-requires
 write-number-requires c κs = let args = c .before .before .args in omega (arith, c .before .before .pre, line-length (args .start) (args .end) (args .key))
