@@ -29,6 +29,9 @@ pub as-list : {xs ys m now : List ℕ} {count : ℕ} → xs ≡ ys → AtFront x
 as-list e p = rw e at p
 
 module _ {xs m now : List ℕ} {at : ℕ} (p : AtFront xs m now at) where
+  pub within : at ≤ length now
+  within = omega (arith, p .size, ap length (p .here), length-append xs (drop (length xs) m))
+
   pub same-size : length xs ≤ length m → length now ≡ length m
   same-size room = ap length (p .here) ∙ length-front xs m room
 

@@ -1,5 +1,5 @@
 -- What the functions' proofs share, on plain lists.
-mod Behind
+pub mod Behind
 mod Decimals
 mod Sizes
 mod Segments

@@ -2,7 +2,7 @@
 ghost use mathlib.Core.Path.{_≡_};
 ghost use Prim.Native.Nat.{_*_, _≤_};
 ghost use lib.ListN.{length};
-ghost use Rattle.laws.specs.Front.{front, list};
+ghost use Rattle.laws.specs.Front.{list};
 ghost use Rattle.bits.specs.Bits.{bitsOfBytes};
 ghost use Rattle.card_form.specs.Form.{countOn, segmentOn, meaningOn};
 ghost use Rattle.listing.specs.Lines.{AtFront};
@@ -66,7 +66,7 @@ fn write_refusal(number: u32, bytes: &mut [u8]) -> usize
 // Writes a card's listing from the front of `bytes`, and returns its length.
 pub fn write_listing(card: &[u8], bytes: &mut [u8]) -> usize
     requires { ⌜ longestListing ≤ length (now bytes) ⌝ }
-    ensures { λ r. ⌜ (r ≡ length (listingOf (now (card .entry)))) × (now (bytes .exit) ≡ front (listingOf (now (card .entry))) (now (bytes .entry))) ⌝ }
+    ensures { λ r. ⌜ AtFront (listingOf (now (card .entry))) (now (bytes .entry)) (now (bytes .exit)) r ⌝ }
 {
     let judged = judge_card(card, 1_023);
     match judged {

@@ -29,8 +29,7 @@ same-length c = search needs
 returns : tie.Need-returns
 returns c =
     let judged = sym (c .before .before .before .before .before .before .before .judge-card .ensures) ∙ c .before .before .before .before .before .judged .given .1 in
-    let put = as-list (of-refused (c .before .before .before .before .before .before .before .before .before .before .args .card .now) _ judged) (c .before .before .write-refusal .ensures) in
-    (put .size, put .here)
+    as-list (of-refused (c .before .before .before .before .before .before .before .before .before .before .args .card .now) _ judged) (c .before .before .write-refusal .ensures)
 
 same-length-2 : tie.Need-same-length-2
 same-length-2 c = search needs
@@ -38,8 +37,7 @@ same-length-2 c = search needs
 returns-2 : tie.Need-returns-2
 returns-2 c =
     let judged = sym (c .before .before .before .before .before .before .before .judge-card .ensures) ∙ c .before .before .before .before .before .judged2 .given .1 in
-    let put = as-list (of-readable (c .before .before .before .before .before .before .before .before .before .before .args .card .now) _ judged) (c .before .before .write-card .ensures) in
-    (put .size, put .here)
+    as-list (of-readable (c .before .before .before .before .before .before .before .before .before .before .args .card .now) _ judged) (c .before .before .write-card .ensures)
 
 pub write-listing-spec : {M : Type 1} → statement M
 write-listing-spec =
