@@ -22,14 +22,25 @@ lentCardRows starts ends keys confidences = record { starts = now starts; ends =
 abbrev pub rowsIn : CardRows → ℕ
 rowsIn rows = shortest (length (rows .starts)) (length (rows .ends) ∷ length (rows .keys) ∷ length (rows .confidences) ∷ [])
 
+-- segments as rows: a start is the end before it, the first 0
+abbrev pub rowsOf : List Segment → CardRows
+rowsOf ss =
+    record {
+      starts = list (startAt ss) (length ss);
+      ends = map (λ (s : Segment). s .end) ss;
+      keys = map (λ (s : Segment). s .key) ss;
+      confidences = map (λ (s : Segment). s .confidence) ss;
+    }
+
 -- the rows once these segments stand in the first places
 abbrev pub holdingCard : List Segment → CardRows → CardRows
 holdingCard ss before =
+    let rows = rowsOf ss in
     record {
-      starts = front (list (startAt ss) (length ss)) (before .starts);
-      ends = front (map (λ (s : Segment). s .end) ss) (before .ends);
-      keys = front (map (λ (s : Segment). s .key) ss) (before .keys);
-      confidences = front (map (λ (s : Segment). s .confidence) ss) (before .confidences);
+      starts = front (rows .starts) (before .starts);
+      ends = front (rows .ends) (before .ends);
+      keys = front (rows .keys) (before .keys);
+      confidences = front (rows .confidences) (before .confidences);
     }
 
 -- segment i of three lists

@@ -4,11 +4,16 @@ use mathlib.Core.Bool.{false}
 use mathlib.Core.List.{List}
 use Prim.Native.Nat.{ℕ, _^_, _<_, _≤_}
 use lib.ListN.{length, getD}
-use Rattle.card.specs.Layout.{Meaning, layouts, numberedIn}
+use Rattle.card.specs.Layout.{Meaning, layout1, layouts, numberedIn}
 use Rattle.card.specs.Rules.{cardBroken}
 use Rattle.card.specs.declared.layout.Layout.{Layout}
 use Rattle.card.specs.declared.layout.Numbered.the-variants.{Known}
 use Rattle.card_form.specs.Form.{cardBytes}
+use Rattle.card_form.specs.Rows.{rowsOf}
+use Rattle.card_judge.specs.Analysed.{Analysis, meaningOf, unwritable}
+use Rattle.card_call.specs.Cards.{cardOf}
+use Rattle.packed_call.specs.PackedCards.{packedCall}
+use Rattle.written.specs.Outcome.{writtenAs}
 use Rattle.card_reader.specs.Reading.{says, readOf}
 
 -- every entry is a byte, as in all that a caller lends
@@ -29,3 +34,13 @@ ReadIsWritten = (bytes : List ℕ) → AllBytes bytes → (rows : ℕ) (m : Mean
 -- the card of a meaning is read as that meaning, where there are rows for its segments
 abbrev pub WrittenIsRead : Type 0
 WrittenIsRead = (bytes : List ℕ) (rows : ℕ) (m : Meaning) → CardOf bytes m → length (m .segments) ≤ rows → readOf bytes rows ≡ says m
+
+-- what was read, written again from the packed numbers, gives the same bytes, where there is room for them
+abbrev pub WrittenAgain : Type 0
+WrittenAgain =
+    (bytes : List ℕ) → AllBytes bytes → (rows : ℕ) (m : Meaning) → readOf bytes rows ≡ says m → (lent : List ℕ) → packedCall (m .header) (rowsOf (m .segments)) lent ≡ writtenAs false bytes lent
+
+-- the card of an analysis is read as that analysis in packed numbers
+abbrev pub AnalysedIsRead : Type 0
+AnalysedIsRead =
+    (a : Analysis) → unwritable layout1 a ≡ false → (rows : ℕ) → length (a .ends) ≤ rows → readOf (cardOf a) rows ≡ says (meaningOf layout1 a)

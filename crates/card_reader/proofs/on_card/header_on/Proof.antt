@@ -45,7 +45,7 @@ returns c =
     let start = c .before .before .before .before .before .before .before in
     let bytes = start .args .bytes .now in
     let parts = header-parts (start .args .l) (bitsOfBytes bytes) (binary-bytes bytes) _ (rw (length-bytes bytes) (start .pre .1)) (c .before .before .before .before .before .get-bits .ensures) in
-    cc (parts)
+    rw (c .before .before .before .before .field .ensures, c .before .before .before .field2 .ensures, c .before .before .field3 .ensures, c .before .field4 .ensures, c .field5 .ensures) parts
 
 pub header-on-spec : {M : Type 1} → statement M
 header-on-spec =

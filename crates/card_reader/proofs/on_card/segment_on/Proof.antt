@@ -45,7 +45,7 @@ returns c =
     let start = c .before .before .before .before .before .before .before in
     let bytes = start .args .bytes .now in
     let parts = segment-parts (start .args .l) (bitsOfBytes bytes) (binary-bytes bytes) _ (start .args .i) (rw (length-bytes bytes) (start .pre .2)) (c .before .before .before .get-bits .ensures) in
-    cc (parts)
+    rw (c .before .before .field .ensures, c .before .field2 .ensures, c .field3 .ensures) parts
 
 pub segment-on-spec : {M : Type 1} → statement M
 segment-on-spec =
