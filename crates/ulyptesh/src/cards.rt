@@ -1,9 +1,12 @@
-// The call "write a card".
+// The calls on cards.
 ghost use mathlib.Core.Path.{_≡_};
 ghost use Rattle.card_judge.specs.Analysed.{analysis};
 ghost use Rattle.written.specs.Outcome.{bytesOutcome};
 ghost use Rattle.card_call.specs.Cards.{overall, cardCall};
+ghost use Rattle.card_form.specs.Rows.{lentCardRows};
+ghost use Rattle.packed_call.specs.PackedCards.{packedHead, packedCall};
 use card_call::write_analysed_card;
+use packed_call::write_packed_card;
 use written::Written;
 
 // Writes the key card of an analysis from the front of `bytes`: keys by number, 24 for a missing one,
@@ -24,6 +27,37 @@ pub extern "C" fn ulyptesh_write_card(
     ensures { λ r. ⌜ bytesOutcome r (now (bytes .exit)) ≡ cardCall (analysis (overall key dsp alternate coverage confidence) (now (starts .entry)) (now (ends .entry)) (now (keys .entry)) (now (confidences .entry))) (now (bytes .entry)) ⌝ }
 {
     write_analysed_card(
+        key,
+        dsp,
+        alternate,
+        coverage,
+        confidence,
+        starts,
+        ends,
+        keys,
+        confidences,
+        bytes,
+    )
+}
+
+// Writes the key card of packed numbers from the front of `bytes`: keys by number, 24 for a missing one, thousandths,
+// and segments in four slices, in milliseconds. Refusals: 11 a card rule broken or slices of unequal length, 12 too few bytes.
+#[no_mangle]
+pub extern "C" fn ulyptesh_write_packed_card(
+    key: u32,
+    dsp: u32,
+    alternate: u32,
+    coverage: u32,
+    confidence: u32,
+    starts: &[u32],
+    ends: &[u32],
+    keys: &[u8],
+    confidences: &[u16],
+    bytes: &mut [u8],
+) -> Written
+    ensures { λ r. ⌜ bytesOutcome r (now (bytes .exit)) ≡ packedCall (packedHead key dsp alternate coverage confidence) (lentCardRows (starts .entry) (ends .entry) (keys .entry) (confidences .entry)) (now (bytes .entry)) ⌝ }
+{
+    write_packed_card(
         key,
         dsp,
         alternate,
