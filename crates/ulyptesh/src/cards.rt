@@ -1,11 +1,13 @@
-// The calls on key cards: write one from an analysis, read one.
+// The calls on key cards: write one from an analysis or from packed numbers, and read one.
 ghost use mathlib.Core.Path.{_≡_};
 ghost use Rattle.card_judge.specs.Analysed.{analysis};
 ghost use Rattle.written.specs.Outcome.{bytesOutcome};
 ghost use Rattle.card_call.specs.Cards.{overall, cardCall};
 ghost use Rattle.card_form.specs.Rows.{lentCardRows};
+ghost use Rattle.packed_call.specs.PackedCards.{packedHead, packedCall};
 ghost use Rattle.read_call.specs.Reads.{readOutcome, readCall};
 use card_call::write_analysed_card;
+use packed_call::write_packed_card;
 use read_call::CardRead;
 use read_call::read_card;
 use written::Written;
@@ -28,6 +30,37 @@ pub extern "C" fn ulyptesh_write_card(
     ensures { λ r. ⌜ bytesOutcome r (now (bytes .exit)) ≡ cardCall (analysis (overall key dsp alternate coverage confidence) (now (starts .entry)) (now (ends .entry)) (now (keys .entry)) (now (confidences .entry))) (now (bytes .entry)) ⌝ }
 {
     write_analysed_card(
+        key,
+        dsp,
+        alternate,
+        coverage,
+        confidence,
+        starts,
+        ends,
+        keys,
+        confidences,
+        bytes,
+    )
+}
+
+// Writes the key card of packed numbers from the front of `bytes`: keys by number, 24 for a missing one, thousandths,
+// and segments in four slices, in milliseconds. Refusals: 11 a card rule broken or slices of unequal length, 12 too few bytes.
+#[no_mangle]
+pub extern "C" fn ulyptesh_write_packed_card(
+    key: u32,
+    dsp: u32,
+    alternate: u32,
+    coverage: u32,
+    confidence: u32,
+    starts: &[u32],
+    ends: &[u32],
+    keys: &[u8],
+    confidences: &[u16],
+    bytes: &mut [u8],
+) -> Written
+    ensures { λ r. ⌜ bytesOutcome r (now (bytes .exit)) ≡ packedCall (packedHead key dsp alternate coverage confidence) (lentCardRows (starts .entry) (ends .entry) (keys .entry) (confidences .entry)) (now (bytes .entry)) ⌝ }
+{
+    write_packed_card(
         key,
         dsp,
         alternate,
