@@ -38,9 +38,6 @@ module _ {xs m now : List ℕ} {at : ℕ} (p : AtFront xs m now at) where
   pub byte-behind : (b : ℕ) → length xs < length m → AtFront (xs ++ (b ∷ [])) m (set now at b) (at + 1)
   byte-behind b room = record { size = rw (length-append, p .size); here = rw (p .here, p .size) (front-more xs m b room) }
 
-  pub inside : length xs ≤ length m → at ≤ length now
-  inside room = omega (arith, same-size room, p .size)
-
   -- there is room for what is left to write
   pub room-behind : (ys : List ℕ) → length (xs ++ ys) ≤ length m → length ys ≤ length (rest now at)
   room-behind ys room =

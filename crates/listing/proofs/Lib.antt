@@ -4,3 +4,4 @@ mod Decimals
 mod Sizes
 mod Segments
 mod Whole
+pub mod Beyond

@@ -10,7 +10,7 @@ use Rattle.card.specs.Rules.{cardSegment, startAt}
 use Rattle.card.specs.declared.layout.Segment.{Segment}
 use Rattle.listing.specs.Lines.{AtFront, lineOf, linesOf}
 use Rattle.listing.specs.Listing.{segmentLine}
-use Rattle.listing.proofs.Behind.{at-start, rest, back, as-list, same-size, inside, room-behind, part-behind}
+use Rattle.listing.proofs.Behind.{at-start, rest, back, as-list, same-size, room-behind, part-behind}
 use Rattle.listing.proofs.Sizes.{line-short, lines-more, lines-short}
 
 -- i lines are written
@@ -33,9 +33,6 @@ module _ {ss : List Segment} {bytes₀ bytes : List ℕ} {start at i : ℕ} (r :
   -- so long as there are lines to write
   pub reached-long : i ≤ count → length bytes ≡ length bytes₀
   reached-long h = same-size (r .put) (so-far h)
-
-  pub reached-inside : i ≤ count → at ≤ length bytes
-  reached-inside h = inside (r .put) (so-far h)
 
   pub reached-room : i < count → (end key : ℕ) → length (lineOf start end key) ≤ length (rest bytes at)
   reached-room h end key =

@@ -14,7 +14,7 @@ use Rattle.card.specs.declared.layout.Segment.{Segment}
 use Rattle.card_form.specs.Form.{headerWidth, segmentOn, meaningOn}
 use Rattle.listing.specs.Lines.{keyLine}
 use Rattle.listing.specs.Listing.{segmentLines}
-use Rattle.listing.proofs.Behind.{rest-long, as-list, same-size, inside, part-behind}
+use Rattle.listing.proofs.Behind.{rest-long, as-list, same-size, within, part-behind}
 use Rattle.listing.proofs.Sizes.{key-short}
 use Rattle.listing.proofs.Whole.{without-key, with-key, card-short}
 use Rattle.listing.proofs.cards.write_card.Statement.{statement}
@@ -52,10 +52,10 @@ write-key-requires : tie.Need-write-key-requires
 write-key-requires c κs = omega (arith, c .before .before .before .before .before .before .pre .1, key-short (c .before .before .before .header-on .result .key))
 
 sub-write-lines : tie.Need-sub-write-lines
-sub-write-lines c = inside (c .before .before .write-key .ensures) (omega (arith, c .before .before .before .before .before .before .before .before .before .pre .1, key-short (c .before .before .before .before .before .before .header-on .result .key)))
+sub-write-lines c = within (c .before .before .write-key .ensures)
 
 part-write-lines-start : tie.Need-part-write-lines-start
-part-write-lines-start c = inside (c .before .before .write-key .ensures) (omega (arith, c .before .before .before .before .before .before .before .before .before .pre .1, key-short (c .before .before .before .before .before .before .header-on .result .key)))
+part-write-lines-start c = within (c .before .before .write-key .ensures)
 
 part-write-lines-end : tie.Need-part-write-lines-end
 part-write-lines-end c = search needs

@@ -11,8 +11,8 @@ use Rattle.bits.specs.Bits.{bitsOfBytes}
 use Rattle.card_form.specs.Form.{segmentWidth, segmentOn}
 use Rattle.listing.specs.Lines.{linesOf}
 use Rattle.listing.specs.Listing.{segmentLine}
-use Rattle.listing.proofs.Behind.{as-list}
-use Rattle.listing.proofs.Segments.{Reached, reached-start, reached-long, reached-inside, reached-room, reached-more}
+use Rattle.listing.proofs.Behind.{as-list, within}
+use Rattle.listing.proofs.Segments.{Reached, reached-start, reached-long, reached-room, reached-more}
 use Rattle.listing.proofs.cards.write_lines.Statement.{statement}
 use Rattle.listing.proofs.cards.write_lines.Tie as tie
 
@@ -36,10 +36,10 @@ segment-on-requires c κs =
     (start .pre .0 .fits, omega arith, omega arith)
 
 sub-write-line : tie.Need-sub-write-line Inv-loop μ-loop
-sub-write-line c = reached-inside (c .before .before .loop .inv .1) _ (c .before .before .before .before .before .pre .2) (c .before .before .loop .inv .0)
+sub-write-line c = within (c .before .before .loop .inv .1 .put)
 
 part-write-line-start : tie.Need-part-write-line-start Inv-loop μ-loop
-part-write-line-start c = reached-inside (c .before .before .loop .inv .1) _ (c .before .before .before .before .before .pre .2) (c .before .before .loop .inv .0)
+part-write-line-start c = within (c .before .before .loop .inv .1 .put)
 
 part-write-line-end : tie.Need-part-write-line-end Inv-loop μ-loop
 part-write-line-end c = search needs
@@ -57,7 +57,7 @@ again c =
 add-at : tie.Need-add-at Inv-loop μ-loop
 add-at c =
     let start = c .before .before .before .before .before .before .before .before .before in
-    omega (arith, reached-inside (again c .1) _ (start .pre .2) (again c .0), reached-long (again c .1) _ (start .pre .2) (again c .0), start .good .1 .1 .1 .0 .0)
+    omega (arith, within (again c .1 .put), reached-long (again c .1) _ (start .pre .2) (again c .0), start .good .1 .1 .1 .0 .0)
 
 add-i : tie.Need-add-i Inv-loop μ-loop
 add-i c = search needs

@@ -6,7 +6,7 @@ use native.Mathlib.Omega.{arith}
 use lib.ListN.{length, length-append}
 use Rattle.listing.specs.Lines.{newline, numberThen}
 use Rattle.listing.specs.Listing.{refusedWord, refusalLine}
-use Rattle.listing.proofs.Behind.{same-size, inside, room-behind, part-behind}
+use Rattle.listing.proofs.Behind.{same-size, within, room-behind, part-behind}
 use Rattle.listing.proofs.Sizes.{number-short}
 use Rattle.listing.proofs.cards.write_refusal.Statement.{statement}
 use Rattle.listing.proofs.cards.write_refusal.Tie as tie
@@ -21,10 +21,10 @@ write-bytes-requires : tie.Need-write-bytes-requires
 write-bytes-requires c κs = omega (arith, c .before .before .before .pre)
 
 sub-write-number : tie.Need-sub-write-number
-sub-write-number c = inside (c .before .before .write-bytes .ensures) (omega (arith, c .before .before .before .before .before .before .pre))
+sub-write-number c = within (c .before .before .write-bytes .ensures)
 
 part-write-number-start : tie.Need-part-write-number-start
-part-write-number-start c = inside (c .before .before .write-bytes .ensures) (omega (arith, c .before .before .before .before .before .before .pre))
+part-write-number-start c = within (c .before .before .write-bytes .ensures)
 
 part-write-number-end : tie.Need-part-write-number-end
 part-write-number-end c = search needs

@@ -5,16 +5,13 @@ use Prim.Native.Nat.{_≤_}
 use native.Mathlib.Omega.{arith}
 use lib.ListN.{length, length-append}
 use Rattle.listing.specs.Lines.{blank, numberThen, keyLine, lineOf}
-use Rattle.listing.proofs.Behind.{same-size, inside, room-behind, part-behind, as-list}
+use Rattle.listing.proofs.Behind.{same-size, within, room-behind, part-behind, as-list}
 use Rattle.listing.proofs.Sizes.{line-length}
 use Rattle.listing.proofs.lines.write_line.Statement.{statement}
 use Rattle.listing.proofs.lines.write_line.Tie as tie
 
 write-number-requires : tie.Need-write-number-requires
 write-number-requires c κs = let args = c .before .before .args in omega (arith, c .before .before .pre, line-length (args .start) (args .end) (args .key))
-
-first-room : (c : tie.Start) → length (numberThen (c .args .start) blank) ≤ length (c .args .bytes .now)
-first-room c = omega (arith, c .pre, line-length (c .args .start) (c .args .end) (c .args .key))
 
 second-room : (c : tie.Start) → length (numberThen (c .args .start) blank ++ numberThen (c .args .end) blank) ≤ length (c .args .bytes .now)
 second-room c = rw length-append (omega (arith, c .pre, line-length (c .args .start) (c .args .end) (c .args .key)))
@@ -23,10 +20,10 @@ whole-room : (c : tie.Start) → length (numberThen (c .args .start) blank ++ nu
 whole-room c = simp length-append (omega (arith, c .pre, line-length (c .args .start) (c .args .end) (c .args .key)))
 
 sub-write-number : tie.Need-sub-write-number
-sub-write-number c = inside (c .before .before .write-number .ensures) (first-room (c .before .before .before .before .before))
+sub-write-number c = within (c .before .before .write-number .ensures)
 
 part-write-number-start : tie.Need-part-write-number-start
-part-write-number-start c = inside (c .before .before .write-number .ensures) (first-room (c .before .before .before .before .before))
+part-write-number-start c = within (c .before .before .write-number .ensures)
 
 part-write-number-end : tie.Need-part-write-number-end
 part-write-number-end c = search needs
@@ -40,10 +37,10 @@ add-second c =
     omega (arith, part-behind (c .before .before .before .before .before .before .write-number .ensures) (c .before .before .write-number2 .ensures) .size, second-room start, start .good .1 .1 .1 .0 .0)
 
 sub-write-key : tie.Need-sub-write-key
-sub-write-key c = inside (part-behind (c .before .before .before .before .before .before .write-number .ensures) (c .before .before .write-number2 .ensures)) (second-room (c .before .before .before .before .before .before .before .before .before))
+sub-write-key c = within (part-behind (c .before .before .before .before .before .before .write-number .ensures) (c .before .before .write-number2 .ensures))
 
 part-write-key-start : tie.Need-part-write-key-start
-part-write-key-start c = inside (part-behind (c .before .before .before .before .before .before .write-number .ensures) (c .before .before .write-number2 .ensures)) (second-room (c .before .before .before .before .before .before .before .before .before))
+part-write-key-start c = within (part-behind (c .before .before .before .before .before .before .write-number .ensures) (c .before .before .write-number2 .ensures))
 
 part-write-key-end : tie.Need-part-write-key-end
 part-write-key-end c = search needs
