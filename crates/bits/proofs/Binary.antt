@@ -38,16 +38,21 @@ unfolding bitsOf
 binary-bits zero v = binary-none
 binary-bits (suc w) v = binary-cons (mod-lt (v / 2 ^ w) (lit< tt)) (binary-bits w v)
 
-binary-take : (n : ℕ) {bits : List ℕ} → Binary bits → Binary (take n bits)
+pub binary-bytes : (bytes : List ℕ) → Binary (bitsOfBytes bytes)
+unfolding bitsOfBytes
+binary-bytes [] = binary-none
+binary-bytes (b ∷ bytes) = binary-append (binary-bits 8 b) (binary-bytes bytes)
+
+pub binary-take : (n : ℕ) {bits : List ℕ} → Binary bits → Binary (take n bits)
 binary-take zero b = binary-none
 binary-take (suc n) {bits = []} b = binary-none
 binary-take (suc n) {bits = x ∷ bits} b = binary-cons (b .bit 0) (binary-take n (binary-tail b))
 
-binary-drop : (n : ℕ) {bits : List ℕ} → Binary bits → Binary (drop n bits)
+pub binary-drop : (n : ℕ) {bits : List ℕ} → Binary bits → Binary (drop n bits)
 binary-drop n {bits} b = record { bit = λ i. rw (getD-drop n bits i 0) (b .bit (n + i)) }
 
 -- bits are those of the number that they spell
-spelled : (bits : List ℕ) → Binary bits → HasBits (length bits) (numberOf bits) bits
+pub spelled : (bits : List ℕ) → Binary bits → HasBits (length bits) (numberOf bits) bits
 unfolding numberOf bitsOf
 spelled [] b = record { fits = lit< tt; same = refl }
 spelled (x ∷ bits) b =

@@ -49,7 +49,7 @@ known-take (suc n) (x ∷ l) known zero = known 0
 known-take (suc n) (x ∷ l) known (suc i) = known-take n l (λ j. known (suc j)) i
 
 -- bytes whose bits are some bits and filler are the bytes of those bits
-bytes-are : (bytes bits : List ℕ) → ((i : ℕ) → getD bytes i 0 < 2 ^ 8) → length bytes ≡ bytesFor (length bits) → bitsOfBytes bytes ≡ withFiller bits → bytes ≡ bytesOf bits
+pub bytes-are : (bytes bits : List ℕ) → ((i : ℕ) → getD bytes i 0 < 2 ^ 8) → length bytes ≡ bytesFor (length bits) → bitsOfBytes bytes ≡ withFiller bits → bytes ≡ bytesOf bits
 bytes-are bytes bits known size same = sym (cut-bytes bytes known) ∙ rw (size, same)
 
 -- a fresh pen that put bits and their filler has left their bytes, and the rest as it was

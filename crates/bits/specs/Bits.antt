@@ -36,6 +36,21 @@ withFiller bits = bits ++ replicate (bytesFor (length bits) * 8 - length bits) 0
 abbrev pub bytesOf : List ℕ → List ℕ
 bytesOf bits = bytesCut (bytesFor (length bits)) (withFiller bits)
 
+-- the numbers of these widths, one behind the other
+abbrev pub fieldBits : List ℕ → List ℕ → List ℕ
+fieldBits [] numbers = []
+fieldBits (width ∷ widths) [] = []
+fieldBits (width ∷ widths) (number ∷ numbers) = bitsOf width number ++ fieldBits widths numbers
+
+-- the number that `width` bits from bit `at` on spell
+abbrev pub fieldAt : List ℕ → ℕ → ℕ → ℕ
+fieldAt bits at width = numberOf (take width (drop at bits))
+
+-- the numbers that bits spell in fields of these widths, one behind the other
+abbrev pub fieldsOf : List ℕ → List ℕ → List ℕ
+fieldsOf [] bits = []
+fieldsOf (width ∷ widths) bits = fieldAt bits 0 width ∷ fieldsOf widths (drop width bits)
+
 -- a number has these bits: it is no wider than they are, and they are its own
 pub record HasBits (width number : ℕ) (bits : List ℕ) : Type 0 where
   pub fits : number < 2 ^ width

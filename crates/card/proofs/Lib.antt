@@ -1,2 +1,4 @@
--- What the rules give.
+-- What the rules and the layouts give.
 pub mod Fits
+pub mod Judged
+pub mod Known

@@ -1,7 +1,11 @@
 -- The layouts of a key card, and what a card says in packed numbers. Definitions only.
-use mathlib.Core.List.{List}
+use mathlib.Core.Bool.{Bool, true, false, cond}
+use mathlib.Core.List.{List, [], _∷_}
+use lib.Dec.{eqb}
 use Prim.Native.Nat.{ℕ, _^_, _<_, _≤_}
 use Rattle.card.specs.declared.layout.Layout.{Layout}
+use Rattle.card.specs.declared.layout.Numbered.{Numbered}
+use Rattle.card.specs.declared.layout.Numbered.the-variants.{Known, Unknown}
 use Rattle.card.specs.declared.layout.Header.{Header}
 use Rattle.card.specs.declared.layout.Segment.{Segment}
 
@@ -13,6 +17,25 @@ pub record Meaning : Type 0 where
 -- layout 1: 10 bits for the count and 24 for an end; at most 1,023 segments, none of which ends after 4 hours
 abbrev pub layout1 : Layout
 layout1 = record { number = 1; count = 10; end = 24; most = 1_023; last = 14_400_000 }
+
+-- the layouts that are known
+abbrev pub layouts : List Layout
+layouts = layout1 ∷ []
+
+-- the first of several layouts with a number
+abbrev pub numberedIn : List Layout → ℕ → Numbered
+numberedIn [] number = Unknown
+numberedIn (l ∷ ls) number = cond (eqb number (l .number)) (Known l) (numberedIn ls number)
+
+-- a layout was found
+abbrev pub isKnown : Numbered → Bool
+isKnown (Known l) = true
+isKnown Unknown = false
+
+-- the layout that was found; where there is none, layout 1 stands in
+abbrev pub layoutOr1 : Numbered → Layout
+layoutOr1 (Known l) = l
+layoutOr1 Unknown = layout1
 
 -- the widths that the functions can put, and limits that fit them
 pub record LayoutFits (l : Layout) : Type 0 where

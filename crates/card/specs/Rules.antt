@@ -64,9 +64,13 @@ before start at (suc i) = at i
 abbrev pub cardSegment : List Segment → ℕ → Segment
 cardSegment ss i = getD ss i (record { end = 0; key = 0; confidence = 0 })
 
+-- where segment i starts: at the end before it, and the first at 0
+abbrev pub startAt : List Segment → ℕ → ℕ
+startAt ss = before 0 (λ (k : ℕ). cardSegment ss k .end)
+
 -- segment i breaks a rule
 abbrev pub brokenAt : Layout → List Segment → ℕ → Bool
-brokenAt l ss i = segmentBroken l (eqb (length ss) 1) (before 0 (λ (k : ℕ). cardSegment ss k .end) i) (cardSegment ss i)
+brokenAt l ss i = segmentBroken l (eqb (length ss) 1) (startAt ss i) (cardSegment ss i)
 
 -- the first segment that does, or their count
 abbrev pub firstBroken : Layout → List Segment → ℕ

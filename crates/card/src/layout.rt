@@ -1,6 +1,6 @@
 // A card's layouts, and the packed numbers that it holds.
 ghost use mathlib.Core.Path.{_≡_};
-ghost use Rattle.card.specs.Layout.{layout1};
+ghost use Rattle.card.specs.Layout.{layout1, layouts, numberedIn, isKnown, layoutOr1};
 
 // A layout's number, the bits of its segment count and of an end, the most segments, and the last end in ms.
 pub struct Layout {
@@ -37,5 +37,41 @@ pub fn layout_1() -> Layout
         end: 24,
         most: 1_023,
         last: 14_400_000,
+    }
+}
+
+// The layout that has a number, or that none is known to have it.
+pub enum Numbered {
+    Known(Layout),
+    Unknown,
+}
+
+// The known layout with this number.
+pub fn layout_numbered(number: u64) -> Numbered
+    ensures { λ r. ⌜ r ≡ numberedIn layouts number ⌝ }
+{
+    if number == 1 {
+        return Numbered::Known(layout_1());
+    }
+    Numbered::Unknown
+}
+
+// Whether a layout was found.
+pub fn is_known(found: Numbered) -> bool
+    ensures { λ r. ⌜ r ≡ isKnown found ⌝ }
+{
+    match found {
+        Numbered::Known(l) => true,
+        Numbered::Unknown => false,
+    }
+}
+
+// The layout that was found; where there is none, layout 1.
+pub fn layout_or_1(found: Numbered) -> Layout
+    ensures { λ r. ⌜ r ≡ layoutOr1 found ⌝ }
+{
+    match found {
+        Numbered::Known(l) => l,
+        Numbered::Unknown => layout_1(),
     }
 }

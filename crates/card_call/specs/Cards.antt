@@ -1,16 +1,12 @@
 -- What `ulyptesh_write_card` promises, as one definition of what it is given. Definitions only.
-use mathlib.Core.List.{List, [], _∷_}
+use mathlib.Core.List.{List}
 use Prim.Native.Nat.{ℕ}
-use lib.Dec.{ltb}
-use lib.ListN.{length}
 use lib.Ieee.{Float}
-use Rattle.laws.specs.Front.{front}
-use Rattle.laws.specs.Table.{_gives_, firstOf}
 use Rattle.card_judge.specs.declared.analysed.Overall.{Overall}
 use Rattle.card.specs.Layout.{layout1}
-use Rattle.card_writer.specs.Form.{cardBytes}
+use Rattle.card_form.specs.Form.{cardBytes}
 use Rattle.card_judge.specs.Analysed.{Analysis, meaningOf, unwritable}
-use Rattle.written.specs.Outcome.{answered, BytesOutcome, bytesOutcome}
+use Rattle.written.specs.Outcome.{BytesOutcome, writtenAs}
 
 -- what is said of the whole track
 abbrev pub overall : ℕ → ℕ → ℕ → Float → Float → Overall
@@ -22,9 +18,4 @@ cardOf a = cardBytes layout1 (meaningOf layout1 a)
 
 -- 11 for an analysis that no card holds and 12 for too few bytes leave the bytes as they are; else the card stands at their front
 abbrev pub cardCall : Analysis → List ℕ → BytesOutcome
-cardCall a bytes =
-    firstOf
-    ((unwritable layout1 a gives bytesOutcome (answered 11 0) bytes)
-    ∷ (ltb (length bytes) (length (cardOf a)) gives bytesOutcome (answered 12 0) bytes)
-    ∷ [])
-    (bytesOutcome (answered 0 (length (cardOf a))) (front (cardOf a) bytes))
+cardCall a bytes = writtenAs (unwritable layout1 a) (cardOf a) bytes

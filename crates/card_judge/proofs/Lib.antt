@@ -1,2 +1,3 @@
 -- From broken rules, lists and gaps to the definition.
 pub mod Broken
+pub mod Analyses

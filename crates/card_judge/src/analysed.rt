@@ -56,7 +56,7 @@ pub fn packed_segment(l: Layout, end: f64, key: u8, confidence: f32) -> Segment
 }
 
 // Whether lists of these lengths are not equally long.
-fn unequal_lengths(starts: usize, ends: usize, keys: usize, confidences: usize) -> bool
+pub fn unequal_lengths(starts: usize, ends: usize, keys: usize, confidences: usize) -> bool
     ensures { λ r. ⌜ r ≡ unequal starts ends keys confidences ⌝ }
 {
     !(starts == ends) | !(keys == ends) | !(confidences == ends)

@@ -1,4 +1,2 @@
--- What is known of cards and of analyses, and what the functions' proofs share.
-mod Cards
-pub mod Writable
+-- What is known of cards.
 pub mod OneCard

@@ -1,3 +1,1 @@
-pub mod Form
 pub mod OneCard
-pub mod inside

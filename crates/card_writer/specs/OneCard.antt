@@ -5,7 +5,7 @@ use Rattle.card.specs.Layout.{Meaning, LayoutFits}
 use Rattle.card.specs.Rules.{cardBroken}
 use Rattle.card.specs.declared.layout.Layout.{Layout}
 use Rattle.card_judge.specs.Analysed.{Analysis, meaningOf, unwritable}
-use Rattle.card_writer.specs.Form.{cardBytes}
+use Rattle.card_form.specs.Form.{cardBytes}
 
 -- what a card of a layout tells by its bytes alone: of meanings that break no card rule one, and of layouts the number; an analysis that is written has such a meaning
 pub record CardTells (l : Layout) : Type 0 where

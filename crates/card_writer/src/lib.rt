@@ -1,3 +1,2 @@
-// Key cards written: fields joined into numbers, and an analysis that keeps the rules put into lent bytes.
-pub mod fields;
+// Key cards written: an analysis that keeps the rules put into lent bytes.
 pub mod write;

@@ -1,2 +1,2 @@
 -- What the functions' proofs share, on plain lists.
-mod Letters
+pub mod Letters

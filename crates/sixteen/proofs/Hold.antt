@@ -27,7 +27,7 @@ use Rattle.groups.specs.Groups.{borderAfter, innerBorders, groupOf, segmentsBet
 use Rattle.shortening.specs.Shorten.{firstShort, keeper, joinAt, unsettled, joinShort, shorten, shortenedOf}
 use Rattle.alternates.specs.Alternate.{heldSeconds, lasting, totalOf, lastsIn, secondsOf, lastingKeys, rivalOf, coverageOf, lacks, alternateOf}
 use Rattle.bits.specs.Bits.{bitsOf, numberOf, bytesCut}
-use Rattle.card_writer.specs.Form.{segmentsBits, cardBytes}
+use Rattle.card_form.specs.Form.{segmentsBits, cardBytes}
 use Rattle.card.specs.Rules.{headerBroken, segmentBroken, cardBroken}
 use Rattle.card_judge.specs.Analysed.{unequal, unwritable}
 use Rattle.answers.specs.Answer.{keyless}

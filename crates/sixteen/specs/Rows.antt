@@ -20,7 +20,7 @@ use Rattle.alternates.specs.declared.alternate.Alternate.{Alternate}
 use Rattle.alternates.specs.Alternate.{alternateOf, alternateNumber, alternateCoverage}
 use Rattle.chroma.specs.Shift.{shiftedOf}
 use Rattle.card.specs.Layout.{layout1}
-use Rattle.card_writer.specs.Form.{cardBytes}
+use Rattle.card_form.specs.Form.{cardBytes}
 use Rattle.card.specs.Rules.{noKey}
 use Rattle.card_judge.specs.Analysed.{Analysis, analysis, meaningOf, unwritable}
 use Rattle.card_call.specs.Answered.{cardOfAnswer}

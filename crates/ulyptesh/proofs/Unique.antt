@@ -1,6 +1,6 @@
 -- Each promise is an equality, so it allows one outcome.
 use mathlib.Core.Path.{sym, _∙_}
-use Rattle.ulyptesh.specs.Unique.{ScoresUnique, KeyUnique, KeyNameUnique, CardUnique, FramesUnique, AnalyseUnique, AbiUnique}
+use Rattle.ulyptesh.specs.Unique.{ScoresUnique, KeyUnique, KeyNameUnique, CardUnique, PackedCardUnique, ReadUnique, FramesUnique, AnalyseUnique, AbiUnique}
 
 pub scores-unique : ScoresUnique
 scores-unique chroma places a b p q = p ∙ sym q
@@ -13,6 +13,12 @@ key-name-unique number bytes a b p q = p ∙ sym q
 
 pub card-unique : CardUnique
 card-unique analysis bytes a b p q = p ∙ sym q
+
+pub packed-card-unique : PackedCardUnique
+packed-card-unique header rows bytes a b p q = p ∙ sym q
+
+pub read-unique : ReadUnique
+read-unique bytes rows a b p q = p ∙ sym q
 
 pub frames-unique : FramesUnique
 frames-unique c lent a b p q = p ∙ sym q

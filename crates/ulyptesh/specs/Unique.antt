@@ -13,6 +13,10 @@ use Rattle.chroma_calls.specs.FromChroma.{ScoresOutcome, scoresCall, keyCall}
 use Rattle.frames_call.specs.FramesOnly.{FramesOutcome, framesOnly}
 use Rattle.card_judge.specs.Analysed.{Analysis}
 use Rattle.card_call.specs.Cards.{cardCall}
+use Rattle.card.specs.declared.layout.Header.{Header}
+use Rattle.card_form.specs.Rows.{CardRows}
+use Rattle.packed_call.specs.PackedCards.{packedCall}
+use Rattle.read_call.specs.Reads.{ReadOutcome, readCall}
 use Rattle.interface.specs.Interface.{interfaceNumber}
 use Rattle.ulyptesh.specs.Analysis.{Promised}
 
@@ -35,6 +39,14 @@ KeyNameUnique = (number : ℕ) (bytes : List ℕ) → OneOutcome (λ (o : BytesO
 -- of `ulyptesh_write_card`, for every input
 abbrev pub CardUnique : Type 0
 CardUnique = (analysis : Analysis) (bytes : List ℕ) → OneOutcome (λ (o : BytesOutcome). o ≡ cardCall analysis bytes)
+
+-- of `ulyptesh_write_packed_card`, for every input
+abbrev pub PackedCardUnique : Type 0
+PackedCardUnique = (header : Header) (rows : CardRows) (bytes : List ℕ) → OneOutcome (λ (o : BytesOutcome). o ≡ packedCall header rows bytes)
+
+-- of `ulyptesh_read_card`, for every input
+abbrev pub ReadUnique : Type 0
+ReadUnique = (bytes : List ℕ) (rows : CardRows) → OneOutcome (λ (o : ReadOutcome). o ≡ readCall bytes rows)
 
 -- of `ulyptesh_frames`, for every input
 abbrev pub FramesUnique : Type 0

@@ -1,29 +1,28 @@
--- The loop's invariant: the search goes on from i, and `previous` is the packed end before segment i.
-use mathlib.Core.Path.{_≡_, refl, sym, ap, _∙_}
-use mathlib.Core.List.{List}
-use Prim.Native.Nat.{ℕ, _-_, _≤_, _<_}
-use native.Mathlib.Numerals.{add-one}
-use native.Mathlib.Omega.{arith}
+-- The loop's invariant: the search goes on from segment i.
+use Prim.Native.Nat.{ℕ, _-_}
 use lib.ListN.{length}
 use borrow.Author.Needs.{needs}
-use Rattle.laws.specs.First.{first}
-use Rattle.laws.proofs.First.{first-start, first-again, first-out, first-end}
-use Rattle.card.specs.Rules.{before, brokenAt, firstBroken, cardSegment}
-use Rattle.card_judge.specs.Analysed.{packedSegments}
+use Rattle.card.proofs.Judged.{Judging, judging-start, judging-more, judging-out, judging-end}
+use Rattle.card_judge.specs.Analysed.{packedAt}
 use Rattle.card.specs.declared.layout.Segment.{Segment}
-use Rattle.card_judge.proofs.Broken.{segments-count, segment-packed, told-broken}
 use Rattle.card_judge.proofs.analysed.first_broken.Statement.{statement}
 use Rattle.card_judge.proofs.analysed.first_broken.Tie as tie
 
 abbrev Inv-loop : tie.InvT-loop
-Inv-loop l ends keys confidences count previous₀ i₀ previous i =
-    let ss = packedSegments l ends keys confidences in
-    (i ≤ count) × (first (brokenAt l ss) (count - i) i ≡ firstBroken l ss) × (previous ≡ before 0 (λ (k : ℕ). cardSegment ss k .end) i)
+Inv-loop l ends keys confidences count previous₀ i₀ previous i = Judging l (packedAt l ends keys confidences) count previous i
 
 abbrev μ-loop : tie.MeasureT-loop
 μ-loop l ends keys confidences count previous₀ i₀ previous i = count - i
 
--- in a turn: the loop's state, the segments, and whether segment i is broken
+-- segment i, and how many there are
+module _ (c : tie.Start Inv-loop μ-loop) where
+  abbrev at : ℕ → Segment
+  at = packedAt (c .args .l) (c .args .ends .now) (c .args .keys .now) (c .args .confidences .now)
+
+  abbrev count : ℕ
+  count = length (c .args .ends .now)
+
+-- in a turn: the loop's state
 module _ (c : tie.After-segment-broken Inv-loop μ-loop) where
   abbrev turn : tie.At-loop Inv-loop μ-loop
   turn = c .before .before .before .before .before .before
@@ -31,23 +30,8 @@ module _ (c : tie.After-segment-broken Inv-loop μ-loop) where
   abbrev start : tie.Start Inv-loop μ-loop
   start = turn .before .before .before .before
 
-  abbrev ss : List Segment
-  ss = packedSegments (start .args .l) (start .args .ends .now) (start .args .keys .now) (start .args .confidences .now)
-
-  abbrev inside : turn .loop .i < length (start .args .ends .now)
-  inside = c .before .before .before .before .before .if1 .left
-
-  tested : brokenAt (start .args .l) ss (turn .loop .i) ≡ c .segment-broken .result
-  tested = told-broken (start .args .l) (start .args .ends .now) (start .args .keys .now) (start .args .confidences .now) (turn .loop .i) inside (c .before .packed-segment .ensures) (turn .loop .inv .2) (c .segment-broken .ensures)
-
 loop-holds : tie.Need-loop-holds Inv-loop μ-loop
-loop-holds c =
-    let args = c .before .before .before .args in
-    let ss = packedSegments (args .l) (args .ends .now) (args .keys .now) (args .confidences .now) in (
-      omega arith,
-      first-start (brokenAt (args .l) ss) (length (args .ends .now)) ∙ ap (λ (n : ℕ). first (brokenAt (args .l) ss) n 0) (sym (segments-count (args .l) (args .ends .now) (args .keys .now) (args .confidences .now))),
-      refl,
-    )
+loop-holds c = let start = c .before .before .before in judging-start (start .args .l) (at start) (count start)
 
 mul-packed-segment : tie.Need-mul-packed-segment Inv-loop μ-loop
 mul-packed-segment c = search needs
@@ -79,28 +63,18 @@ loop-less c = search needs
 loop-again : tie.Need-loop-again Inv-loop μ-loop
 loop-again c =
     let t = c .before in
-    let args = start t .args in
-    let i = turn t .loop .i in (
-      omega (arith, inside t),
-      first-again (brokenAt (args .l) (ss t)) (length (args .ends .now)) i (turn t .loop .inv .1) (inside t) (tested t ∙ c .if2 .left),
-      ap (λ (s : Segment). s .end) (t .before .packed-segment .ensures ∙ sym (segment-packed (args .l) (args .ends .now) (args .keys .now) (args .confidences .now) i (inside t)))
-          ∙ ap (before 0 (λ (k : ℕ). cardSegment (ss t) k .end)) (sym (add-one i)),
-    )
+    judging-more (start t .args .l) (at (start t)) (count (start t)) (turn t .loop .i) (turn t .loop .inv) (t .before .before .before .before .before .if1 .left) (t .before .packed-segment .ensures) (t .segment-broken .ensures) (c .if2 .left)
 
 returns : tie.Need-returns Inv-loop μ-loop
 returns c =
     let turn = c .before in
-    let args = turn .before .before .before .before .args in
-    let ss = packedSegments (args .l) (args .ends .now) (args .keys .now) (args .confidences .now) in
-    let i = turn .loop .i in
-    let all : length (args .ends .now) ≡ i = omega (arith, c .if1 .taken, turn .loop .inv .0) in
-    all ∙ first-end (brokenAt (args .l) ss) (length (args .ends .now)) i (turn .loop .inv .1) (c .if1 .taken)
+    let start = turn .before .before .before .before in
+    judging-end (start .args .l) (at start) (count start) (turn .loop .inv) (c .if1 .taken)
 
 returns-2 : tie.Need-returns-2 Inv-loop μ-loop
 returns-2 c =
     let t = c .before in
-    let args = start t .args in
-    first-out (brokenAt (args .l) (ss t)) (length (args .ends .now)) (turn t .loop .i) (turn t .loop .inv .1) (inside t) (tested t ∙ c .if2 .taken)
+    judging-out (start t .args .l) (at (start t)) (count (start t)) (turn t .loop .i) (turn t .loop .inv) (t .before .before .before .before .before .if1 .left) (t .before .packed-segment .ensures) (t .segment-broken .ensures) (c .if2 .taken)
 
 pub first-broken-spec : {M : Type 1} → statement M
 first-broken-spec =

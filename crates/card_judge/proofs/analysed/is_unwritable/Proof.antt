@@ -1,33 +1,31 @@
 -- Each return is a test that passed, those before it having failed.
-use mathlib.Core.Path.{_≡_, ap, _∙_, subst}
+use mathlib.Core.Path.{_≡_, ap, _∙_}
 use mathlib.Core.Bool.{Bool, false}
-use Prim.Native.Nat.{ℕ, _≤_, _<_}
-use lib.Dec.{ltb}
 use lib.ListN.{length}
 use borrow.Author.Needs.{needs}
-use borrow.Author.Tests.{lt-ltb, le-ltb}
 use Rattle.laws.proofs.Table.{told}
 use Rattle.card.specs.Rules.{headerBroken}
-use Rattle.card_judge.specs.Analysed.{Analysis, analysis}
+use Rattle.card_judge.specs.Analysed.{analysis, unwritable}
 use Rattle.card.specs.declared.layout.Header.{Header}
-use Rattle.card_judge.proofs.Broken.{Unequal, InHeader, equal-lengths, by-lengths, by-header, by-segments, by-gaps}
+use Rattle.card_judge.proofs.Broken.{Asked, Unequal, InHeader, equal-lengths, by-lengths, by-header, by-segments, by-gaps}
+use Rattle.card_judge.proofs.Analyses.{asked}
 use Rattle.card_judge.proofs.analysed.is_unwritable.Statement.{statement}
 use Rattle.card_judge.proofs.analysed.is_unwritable.Tie as tie
 
-abbrev asked : tie.Start → Analysis
-asked c = analysis (c .args .o) (c .args .starts .now) (c .args .ends .now) (c .args .keys .now) (c .args .confidences .now)
+abbrev judged : tie.Start → Asked
+judged c = asked (c .args .l) (analysis (c .args .o) (c .args .starts .now) (c .args .ends .now) (c .args .keys .now) (c .args .confidences .now))
 
 -- after the lengths
 module _ (c : tie.Else1) where
   abbrev start : tie.Start
   start = c .before .before .before .before .before .before
 
-  alike : Unequal (start .args .l) (asked start) false
+  alike : Unequal (judged start) false
   alike = told (c .before .unequal-lengths .ensures) (c .if1 .left)
 
 -- after the header
 module _ (c : tie.After-header-broken) where
-  in-header : {b : Bool} → c .header-broken .result ≡ b → InHeader (start (c .before .before) .args .l) (asked (start (c .before .before))) b
+  in-header : {b : Bool} → c .header-broken .result ≡ b → InHeader (judged (start (c .before .before))) b
   in-header t =
       let args = start (c .before .before) .args in
       told (c .header-broken .ensures ∙ ap (λ (h : Header). headerBroken (args .l) h (length (args .ends .now))) (c .before .packed-header .ensures)) t
@@ -36,9 +34,10 @@ unequal-lengths-requires : tie.Need-unequal-lengths-requires
 unequal-lengths-requires c κs = search needs
 
 returns : tie.Need-returns
+unfolding unwritable
 returns c =
     let start = c .before .before .before .before .before .before in
-    by-lengths (start .args .l) (asked start) (told (c .before .unequal-lengths .ensures) (c .if1 .taken))
+    by-lengths (judged start) (told (c .before .unequal-lengths .ensures) (c .if1 .taken))
 
 packed-header-requires : tie.Need-packed-header-requires
 packed-header-requires c κs = search needs
@@ -47,36 +46,35 @@ header-broken-requires : tie.Need-header-broken-requires
 header-broken-requires c κs = search needs
 
 returns-2 : tie.Need-returns-2
+unfolding unwritable
 returns-2 c =
     let lengths = c .before .before .before in
-    by-header (start lengths .args .l) (asked (start lengths)) (alike lengths) (in-header (c .before) (c .if2 .taken))
+    by-header (judged (start lengths)) (alike lengths) (in-header (c .before) (c .if2 .taken))
 
 first-broken-requires : tie.Need-first-broken-requires
 first-broken-requires c κs =
     let lengths = c .before .before .before in
-    let same = equal-lengths (start lengths .args .l) (asked (start lengths)) (alike lengths) in
+    let same = equal-lengths (judged (start lengths)) (alike lengths) in
     (start lengths .pre, same .1, same .2)
 
 returns-3 : tie.Need-returns-3
+unfolding unwritable
 returns-3 c =
     let header = c .before .before .before in
     let lengths = header .before .before in
-    let broken = subst (λ (n : ℕ). n < length (start lengths .args .ends .now)) (c .before .first-broken .ensures) (c .if3 .taken) in
-    by-segments (start lengths .args .l) (asked (start lengths)) (alike lengths) (in-header header (c .before .before .if2 .left)) (lt-ltb _ _ broken)
+    by-segments (judged (start lengths)) (alike lengths) (in-header header (c .before .before .if2 .left)) (c .before .first-broken .ensures) (c .if3 .taken)
 
 first-gap-requires : tie.Need-first-gap-requires
 first-gap-requires c κs =
     let lengths = c .before .before .before .before .before in
-    equal-lengths (start lengths .args .l) (asked (start lengths)) (alike lengths) .0
+    equal-lengths (judged (start lengths)) (alike lengths) .0
 
 returns-4 : tie.Need-returns-4
+unfolding unwritable
 returns-4 c =
     let header = c .before .before .before .before in
     let lengths = header .before .before in
-    let count = length (start lengths .args .ends .now) in
-    let good = subst (λ (n : ℕ). count ≤ n) (c .before .before .first-broken .ensures) (c .before .if3 .left) in
-    ap (λ (n : ℕ). ltb n count) (c .first-gap .ensures)
-    ∙ by-gaps (start lengths .args .l) (asked (start lengths)) (alike lengths) (in-header header (c .before .before .before .if2 .left)) (le-ltb _ _ good)
+    by-gaps (judged (start lengths)) (alike lengths) (in-header header (c .before .before .before .if2 .left)) (c .before .before .first-broken .ensures) (c .before .if3 .left) (c .first-gap .ensures)
 
 pub is-unwritable-spec : {M : Type 1} → statement M
 is-unwritable-spec =

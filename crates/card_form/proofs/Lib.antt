@@ -1,0 +1,4 @@
+-- What is known of the form of a card.
+pub mod Lengths
+pub mod ReadBack
+pub mod WrittenAgain

@@ -1,0 +1,52 @@
+-- A card's segments in lent rows: four slices of packed numbers side by side. Definitions only.
+use Prim.Native.Nat.{ℕ}
+use mathlib.Core.List.{List, [], _∷_, map}
+use lib.ListN.{length, getD}
+use denote.Ref.{RefT, now}
+use Rattle.laws.specs.Front.{front, list, shortest}
+use Rattle.card.specs.Rules.{startAt}
+use Rattle.card.specs.declared.layout.Segment.{Segment}
+
+-- where each segment starts and ends in ms, its key's number, its confidence in thousandths
+pub record CardRows : Type 0 where
+  pub starts : List ℕ
+  pub ends : List ℕ
+  pub keys : List ℕ
+  pub confidences : List ℕ
+
+-- as a contract has it: what the references refer to
+abbrev pub lentCardRows : RefT (List ℕ) → RefT (List ℕ) → RefT (List ℕ) → RefT (List ℕ) → CardRows
+lentCardRows starts ends keys confidences = record { starts = now starts; ends = now ends; keys = now keys; confidences = now confidences }
+
+-- how many segments there is room for
+abbrev pub rowsIn : CardRows → ℕ
+rowsIn rows = shortest (length (rows .starts)) (length (rows .ends) ∷ length (rows .keys) ∷ length (rows .confidences) ∷ [])
+
+-- segments as rows: a start is the end before it, the first 0
+abbrev pub rowsOf : List Segment → CardRows
+rowsOf ss =
+    record {
+      starts = list (startAt ss) (length ss);
+      ends = map (λ (s : Segment). s .end) ss;
+      keys = map (λ (s : Segment). s .key) ss;
+      confidences = map (λ (s : Segment). s .confidence) ss;
+    }
+
+-- the rows once these segments stand in the first places
+abbrev pub holdingCard : List Segment → CardRows → CardRows
+holdingCard ss before =
+    let rows = rowsOf ss in
+    record {
+      starts = front (rows .starts) (before .starts);
+      ends = front (rows .ends) (before .ends);
+      keys = front (rows .keys) (before .keys);
+      confidences = front (rows .confidences) (before .confidences);
+    }
+
+-- segment i of three lists
+abbrev pub rowAt : List ℕ → List ℕ → List ℕ → ℕ → Segment
+rowAt ends keys confidences i = record { end = getD ends i 0; key = getD keys i 0; confidence = getD confidences i 0 }
+
+-- the segments that rows hold: as many as there are ends
+abbrev pub segmentsIn : List ℕ → List ℕ → List ℕ → List Segment
+segmentsIn ends keys confidences = list (rowAt ends keys confidences) (length ends)

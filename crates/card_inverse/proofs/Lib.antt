@@ -1,0 +1,3 @@
+-- That reading is the inverse of writing, and what follows for the calls.
+pub mod Inverse
+pub mod Again

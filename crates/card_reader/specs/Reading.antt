@@ -1,0 +1,50 @@
+-- What is read from a card's bytes: the request's table of refusals, or what the card says. Definitions only.
+use Prim.Native.Nat.{ℕ}
+use mathlib.Core.Bool.{not, _&&_, _||_}
+use mathlib.Core.List.{List, [], _∷_}
+use lib.Dec.{eqb, ltb}
+use lib.ListN.{length}
+use Rattle.laws.specs.Table.{Check, _gives_, firstOf}
+use Rattle.bits.specs.Bits.{bitsOfBytes}
+use Rattle.card.specs.Layout.{Meaning, layouts, numberedIn, isKnown, layoutOr1}
+use Rattle.card.specs.Rules.{cardBroken}
+use Rattle.card.specs.declared.layout.Layout.{Layout}
+use Rattle.card.specs.declared.layout.Numbered.{Numbered}
+use Rattle.card_form.specs.Form.{cardSize, numberOn, countOn, meaningOn, fillerSet}
+use Rattle.card_reader.specs.declared.judge.CardJudged.{CardJudged}
+use Rattle.card_reader.specs.declared.judge.CardJudged.the-variants.{Refused, Readable}
+
+-- the layout that a card names
+abbrev pub layoutOn : List ℕ → Numbered
+layoutOn bits = numberedIn layouts (numberOn bits)
+
+-- the table from the top, for bytes with these bits, and so many rows for segments
+abbrev pub table : List ℕ → List ℕ → Layout → ℕ → List (Check CardJudged)
+table bytes bits l rows =
+    (ltb (length bytes) 7 gives Refused 20)
+    ∷ ((isKnown (layoutOn bits) && not (eqb (length bytes) (cardSize l (countOn l bits)))) gives Refused 20)
+    ∷ (not (isKnown (layoutOn bits)) gives Refused 21)
+    ∷ ((cardBroken l (meaningOn l bits) || fillerSet l bits) gives Refused 22)
+    ∷ (ltb rows (countOn l bits) gives Refused 24)
+    ∷ []
+
+-- the first row that applies refuses the card; where none does, it is readable under the layout that it names
+unfoldable pub judgedOf : List ℕ → ℕ → CardJudged
+judgedOf bytes rows =
+    let bits = bitsOfBytes bytes in
+    let l = layoutOr1 (layoutOn bits) in
+    firstOf (table bytes bits l rows) (Readable l)
+
+-- what comes of a card: a refusal, or what it says
+pub data Reading : Type 0 where
+  refused : ℕ → Reading
+  says : Meaning → Reading
+
+-- the same, from what was judged
+abbrev pub readAs : List ℕ → CardJudged → Reading
+readAs bits (Refused number) = refused number
+readAs bits (Readable l) = says (meaningOn l bits)
+
+-- what is read from bytes, with so many rows for segments
+abbrev pub readOf : List ℕ → ℕ → Reading
+readOf bytes rows = readAs (bitsOfBytes bytes) (judgedOf bytes rows)

@@ -1,2 +1,0 @@
--- What only the code's own steps need: no promise names it.
-pub mod Writing

@@ -1,0 +1,4 @@
+pub mod Lines
+pub mod Listing
+pub mod LongInputs
+pub mod inside

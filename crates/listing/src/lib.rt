@@ -1,0 +1,3 @@
+// What the lister prints of a card.
+pub mod cards;
+pub mod lines;

@@ -1,0 +1,2 @@
+-- From packed rows to what is judged.
+pub mod Packed

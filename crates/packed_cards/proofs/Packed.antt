@@ -1,0 +1,26 @@
+-- Packed rows as what is judged, and what is known of those that a card holds.
+use mathlib.Core.Path.{_≡_}
+use mathlib.Core.Bool.{false}
+use lib.ListN.{length}
+use Rattle.card.specs.declared.layout.Layout.{Layout}
+use Rattle.card.specs.declared.layout.Header.{Header}
+use Rattle.card_form.specs.Rows.{CardRows, rowAt}
+use Rattle.card_judge.proofs.Broken.{Asked, Held, held}
+use Rattle.packed_cards.specs.Packed.{firstGap, unwritable}
+
+abbrev pub asked : Layout → Header → CardRows → Asked
+asked l h rows =
+    record {
+      layout = l;
+      header = h;
+      at = rowAt (rows .ends) (rows .keys) (rows .confidences);
+      count = length (rows .ends);
+      starts = length (rows .starts);
+      keys = length (rows .keys);
+      confidences = length (rows .confidences);
+      gap = firstGap (rows .starts) (rows .ends);
+    }
+
+pub writable : (l : Layout) (h : Header) (rows : CardRows) → unwritable l h rows ≡ false → Held (asked l h rows)
+unfolding unwritable
+writable l h rows w = held (asked l h rows) w

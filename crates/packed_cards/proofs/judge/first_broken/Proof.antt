@@ -1,0 +1,77 @@
+-- The loop's invariant: the search goes on from segment i.
+use Prim.Native.Nat.{ℕ, _-_}
+use lib.ListN.{length}
+use borrow.Author.Needs.{needs}
+use Rattle.card.proofs.Judged.{Judging, judging-start, judging-more, judging-out, judging-end}
+use Rattle.card.specs.declared.layout.Segment.{Segment}
+use Rattle.card_form.specs.Rows.{rowAt}
+use Rattle.packed_cards.proofs.judge.first_broken.Statement.{statement}
+use Rattle.packed_cards.proofs.judge.first_broken.Tie as tie
+
+abbrev Inv-loop : tie.InvT-loop
+Inv-loop l ends keys confidences count previous₀ i₀ previous i = Judging l (rowAt ends keys confidences) count previous i
+
+abbrev μ-loop : tie.MeasureT-loop
+μ-loop l ends keys confidences count previous₀ i₀ previous i = count - i
+
+-- segment i, and how many there are
+module _ (c : tie.Start Inv-loop μ-loop) where
+  abbrev at : ℕ → Segment
+  at = rowAt (c .args .ends .now) (c .args .keys .now) (c .args .confidences .now)
+
+  abbrev count : ℕ
+  count = length (c .args .ends .now)
+
+-- in a turn: the loop's state, and the function's entry
+module _ (c : tie.After-segment-broken Inv-loop μ-loop) where
+  abbrev turn : tie.At-loop Inv-loop μ-loop
+  turn = c .before .before .before
+
+  abbrev start : tie.Start Inv-loop μ-loop
+  start = turn .before .before .before .before
+
+loop-holds : tie.Need-loop-holds Inv-loop μ-loop
+loop-holds c = let start = c .before .before .before in judging-start (start .args .l) (at start) (count start)
+
+row-at-requires : tie.Need-row-at-requires Inv-loop μ-loop
+row-at-requires c κs = search needs
+
+segment-broken-requires : tie.Need-segment-broken-requires Inv-loop μ-loop
+segment-broken-requires c κs = search needs
+
+add-i : tie.Need-add-i Inv-loop μ-loop
+add-i c = search needs
+
+loop-less : tie.Need-loop-less Inv-loop μ-loop
+loop-less c = search needs
+
+loop-again : tie.Need-loop-again Inv-loop μ-loop
+loop-again c =
+    let t = c .before in
+    judging-more (start t .args .l) (at (start t)) (count (start t)) (turn t .loop .i) (turn t .loop .inv) (t .before .before .if1 .left) (t .before .row-at .ensures) (t .segment-broken .ensures) (c .if2 .left)
+
+returns : tie.Need-returns Inv-loop μ-loop
+returns c =
+    let turn = c .before in
+    let start = turn .before .before .before .before in
+    judging-end (start .args .l) (at start) (count start) (turn .loop .inv) (c .if1 .taken)
+
+returns-2 : tie.Need-returns-2 Inv-loop μ-loop
+returns-2 c =
+    let t = c .before in
+    judging-out (start t .args .l) (at (start t)) (count (start t)) (turn t .loop .i) (turn t .loop .inv) (t .before .before .if1 .left) (t .before .row-at .ensures) (t .segment-broken .ensures) (c .if2 .taken)
+
+pub first-broken-spec : {M : Type 1} → statement M
+first-broken-spec =
+    tie.close
+    (tie.spec
+    Inv-loop
+    μ-loop
+    loop-holds
+    row-at-requires
+    segment-broken-requires
+    add-i
+    loop-less
+    loop-again
+    returns
+    returns-2)

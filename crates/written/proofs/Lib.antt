@@ -1,0 +1,2 @@
+-- What the calls that write into lent bytes share.
+pub mod Outcomes
