@@ -34,7 +34,7 @@ module _ (t : ℕ) where
   digit-requires c κs = search needs
 
   slice-write-bytes : lts.Need-slice-write-bytes (calls t) (at-measure t) write-decimal.Post
-  slice-write-bytes c = let start = c .before .before .before in omega (arith, start .pre .1, ap length (one-digit (start .args .n) (c .before .if1 .taken)))
+  slice-write-bytes c = let start = c .before .before .before in omega (arith, start .pre .1, ap length (one-digit (start .args .n) (omega arith)))
 
   same-length : lts.Need-same-length (calls t) (at-measure t) write-decimal.Post
   same-length c = search needs
@@ -42,7 +42,7 @@ module _ (t : ℕ) where
   returns : lts.Need-returns (calls t) (at-measure t) write-decimal.Post
   returns c =
       let start = c .before .before .before in
-      let digits = one-digit (start .args .n) (c .before .if1 .taken) in
+      let digits = one-digit (start .args .n) (omega arith) in
       rw (digits, c .digit .ensures) (byte-behind (at-start (start .args .bytes .now)) (digitCode (start .args .n)) (omega (arith, start .pre .1, ap length digits)))
 
   write-decimal-requires : lts.Need-write-decimal-requires (calls t) (at-measure t) write-decimal.Post
