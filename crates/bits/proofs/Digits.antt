@@ -9,7 +9,7 @@ use lib.ListN.{length, take, drop, getD, set, length-append}
 use lib.Seq.{take-at, drop-at, take-suc-set}
 use lib.Arith.{digits-lt}
 use lib.Pow.{pow-add, pow-mono, shl-lt, shr-shr, field, mod-mod-pow, mod-pow-add, high, low}
-use Rattle.bits.specs.Bits.{bitsOf, numberOf, bitsOfBytes, bytesCut}
+use Rattle.bits.specs.Bits.{AllBytes, bitsOf, numberOf, bitsOfBytes, bytesCut}
 use Rattle.bits.specs.Bits.{HasBits}
 
 pub length-bits : (w v : ℕ) → length (bitsOf w v) ≡ w
@@ -67,7 +67,7 @@ length-bytes [] = refl
 length-bytes (x ∷ xs) = rw (length-append (bitsOf 8 x) (bitsOfBytes xs), length-bits 8 x, length-bytes xs) (omega arith)
 
 -- bytes are cut from their own bits
-pub cut-bytes : (xs : List ℕ) → ((i : ℕ) → getD xs i 0 < 2 ^ 8) → bytesCut (length xs) (bitsOfBytes xs) ≡ xs
+pub cut-bytes : (xs : List ℕ) → AllBytes xs → bytesCut (length xs) (bitsOfBytes xs) ≡ xs
 unfolding bitsOfBytes bytesCut
 cut-bytes [] known = refl
 cut-bytes (x ∷ xs) known =

@@ -7,7 +7,7 @@ use native.Mathlib.Omega.{arith}
 use lib.ListN.{length, take, drop, getD, replicate, length-append, take-append-drop}
 use lib.Seq.{drop-drop, length-take-le}
 use lib.Dec.{lit<}
-use Rattle.bits.specs.Bits.{bitsOf, bitsOfBytes, bytesFor, withFiller, bytesOf}
+use Rattle.bits.specs.Bits.{AllBytes, bitsOf, bitsOfBytes, bytesFor, withFiller, bytesOf}
 use Rattle.bits.specs.inside.Pens.{PenReady, BitsPut, putSoFar, freshPen}
 use Rattle.bits.specs.declared.pen.Pen.{Pen}
 use Rattle.bits.proofs.Digits.{length-bits, cut-bytes}
@@ -42,18 +42,18 @@ bits-zero zero = refl
 bits-zero (suc n) = ap₂ (λ (b : ℕ) (bs : List ℕ). b ∷ bs) (ap (λ (q : ℕ). q % 2) (zero-div (2 ^ n))) (bits-zero n)
 
 -- a part of a list of bytes is bytes
-known-take : (n : ℕ) (l : List ℕ) → ((i : ℕ) → getD l i 0 < 2 ^ 8) → (i : ℕ) → getD (take n l) i 0 < 2 ^ 8
+known-take : (n : ℕ) (l : List ℕ) → AllBytes l → (i : ℕ) → getD (take n l) i 0 < 2 ^ 8
 known-take zero l known i = lit< tt
 known-take (suc n) [] known i = lit< tt
 known-take (suc n) (x ∷ l) known zero = known 0
 known-take (suc n) (x ∷ l) known (suc i) = known-take n l (λ j. known (suc j)) i
 
 -- bytes whose bits are some bits and filler are the bytes of those bits
-pub bytes-are : (bytes bits : List ℕ) → ((i : ℕ) → getD bytes i 0 < 2 ^ 8) → length bytes ≡ bytesFor (length bits) → bitsOfBytes bytes ≡ withFiller bits → bytes ≡ bytesOf bits
+pub bytes-are : (bytes bits : List ℕ) → AllBytes bytes → length bytes ≡ bytesFor (length bits) → bitsOfBytes bytes ≡ withFiller bits → bytes ≡ bytesOf bits
 bytes-are bytes bits known size same = sym (cut-bytes bytes known) ∙ rw (size, same)
 
 -- a fresh pen that put bits and their filler has left their bytes, and the rest as it was
-pub put-all : (before after bits : List ℕ) (p : Pen) (filler : ℕ) → ((i : ℕ) → getD after i 0 < 2 ^ 8) →
+pub put-all : (before after bits : List ℕ) (p : Pen) (filler : ℕ) → AllBytes after →
     BitsPut before after freshPen p (bits ++ bitsOf filler 0) → length bits + filler ≡ bytesFor (length bits) * 8 → bytesFor (length bits) ≤ length before →
     after ≡ bytesOf bits ++ drop (bytesFor (length bits)) before
 unfolding bitsOfBytes bitsOf

@@ -2,7 +2,7 @@
 use mathlib.Core.List.{List, [], _∷_, _++_}
 use Prim.Native.Nat.{ℕ, zero, suc, _+_, _-_, _*_, _/_, _%_, _^_, _<_}
 use mathlib.Core.Path.{_≡_}
-use lib.ListN.{length, take, drop, replicate}
+use lib.ListN.{length, take, drop, getD, replicate}
 
 -- the low `width` bits of a number
 unfoldable pub bitsOf : ℕ → ℕ → List ℕ
@@ -13,6 +13,10 @@ bitsOf (suc place) value = value / 2 ^ place % 2 ∷ bitsOf place value
 unfoldable pub numberOf : List ℕ → ℕ
 numberOf [] = 0
 numberOf (bit ∷ bits) = bit * 2 ^ length bits + numberOf bits
+
+-- every entry is a byte, as in all that a caller lends
+abbrev pub AllBytes : List ℕ → Type 0
+AllBytes bytes = (i : ℕ) → getD bytes i 0 < 2 ^ 8
 
 -- the bits of bytes
 unfoldable pub bitsOfBytes : List ℕ → List ℕ

@@ -20,10 +20,13 @@ layout1-sound = record {
   long = omega arith;
 }
 
--- whatever number a card names
-pub found-sound : (number : ℕ) → Sound (layoutOr1 (numberedIn layouts number))
-found-sound number = either (eqb number 1)
+-- what holds of every known layout holds of the one that a card names, or that stands in where it names none
+pub found-in : (holds : Layout → Type 0) → holds layout1 → (number : ℕ) → holds (layoutOr1 (numberedIn layouts number))
+found-in holds first number = either (eqb number 1)
   where
-    either : (b : Bool) → Sound (layoutOr1 (cond b (Known layout1) Unknown))
-    either true = layout1-sound
-    either false = layout1-sound
+    either : (b : Bool) → holds (layoutOr1 (cond b (Known layout1) Unknown))
+    either true = first
+    either false = first
+
+pub found-sound : (number : ℕ) → Sound (layoutOr1 (numberedIn layouts number))
+found-sound = found-in Sound layout1-sound

@@ -2,7 +2,7 @@
 use mathlib.Core.Bool.{Bool, true, false, cond}
 use mathlib.Core.List.{List, [], _∷_}
 use lib.Dec.{eqb}
-use Prim.Native.Nat.{ℕ, _^_, _<_, _≤_}
+use Prim.Native.Nat.{ℕ, max, _^_, _<_, _≤_}
 use Rattle.card.specs.declared.layout.Layout.{Layout}
 use Rattle.card.specs.declared.layout.Numbered.{Numbered}
 use Rattle.card.specs.declared.layout.Numbered.the-variants.{Known, Unknown}
@@ -21,6 +21,15 @@ layout1 = record { number = 1; count = 10; end = 24; most = 1_023; last = 14_400
 -- the layouts that are known
 abbrev pub layouts : List Layout
 layouts = layout1 ∷ []
+
+-- the most segments that any of several layouts has
+abbrev pub mostOf : List Layout → ℕ
+mostOf [] = 0
+mostOf (l ∷ ls) = max (l .most) (mostOf ls)
+
+-- the most segments of any card
+abbrev pub mostSegments : ℕ
+mostSegments = mostOf layouts
 
 -- the first of several layouts with a number
 abbrev pub numberedIn : List Layout → ℕ → Numbered

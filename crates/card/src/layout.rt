@@ -27,6 +27,9 @@ pub struct Segment {
     pub confidence: u64,
 }
 
+// The most segments of any card.
+pub const MOST_SEGMENTS: usize = 1_023;
+
 // Layout 1, for up to four hours.
 pub fn layout_1() -> Layout
     ensures { λ r. ⌜ r ≡ layout1 ⌝ }

@@ -1,4 +1,5 @@
 -- What is known of the form of a card.
 pub mod Lengths
 pub mod ReadBack
-pub mod WrittenAgain
+pub mod PutAgain
+pub mod Broken

@@ -1,4 +1,4 @@
--- The key card's form: which numbers it holds, in how many bits, in which order; and what stands on one. Definitions only.
+-- The key card's form: which numbers in how many bits, and what stands on one. Definitions only.
 use mathlib.Core.Bool.{Bool, not}
 use mathlib.Core.List.{List, [], _∷_, _++_}
 use Prim.Native.Nat.{ℕ, _+_, _*_}

@@ -1,9 +1,12 @@
 -- A card's segments in lent rows: four slices of packed numbers side by side. Definitions only.
 use Prim.Native.Nat.{ℕ}
+use mathlib.Core.Bool.{Bool, not}
 use mathlib.Core.List.{List, [], _∷_, map}
+use lib.Dec.{eqb}
 use lib.ListN.{length, getD}
 use denote.Ref.{RefT, now}
 use Rattle.laws.specs.Front.{front, list, shortest}
+use Rattle.laws.specs.Table.{anyOf}
 use Rattle.card.specs.Rules.{startAt}
 use Rattle.card.specs.declared.layout.Segment.{Segment}
 
@@ -48,5 +51,9 @@ abbrev pub rowAt : List ℕ → List ℕ → List ℕ → ℕ → Segment
 rowAt ends keys confidences i = record { end = getD ends i 0; key = getD keys i 0; confidence = getD confidences i 0 }
 
 -- the segments that rows hold: as many as there are ends
-abbrev pub segmentsIn : List ℕ → List ℕ → List ℕ → List Segment
-segmentsIn ends keys confidences = list (rowAt ends keys confidences) (length ends)
+abbrev pub cardSegmentsIn : List ℕ → List ℕ → List ℕ → List Segment
+cardSegmentsIn ends keys confidences = list (rowAt ends keys confidences) (length ends)
+
+-- lists of these lengths are not equally long
+unfoldable pub unequal : ℕ → ℕ → ℕ → ℕ → Bool
+unequal starts ends keys confidences = anyOf (not (eqb starts ends) ∷ not (eqb keys ends) ∷ not (eqb confidences ends) ∷ [])

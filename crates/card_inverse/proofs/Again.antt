@@ -1,4 +1,4 @@
--- What was read is a meaning whose rows are packed as it: no list is longer, no start is off, and no rule is broken.
+-- The rows of a meaning that breaks no rule are written as its card: no list is longer, no start is off.
 use mathlib.Core.Path.{_≡_, refl, sym, ap, ap₂, _∙_}
 use mathlib.Core.Bool.{Bool, true, false, not, cond}
 use mathlib.Core.List.{List}
@@ -19,15 +19,10 @@ use Rattle.card.specs.declared.layout.Layout.{Layout}
 use Rattle.card.specs.declared.layout.Segment.{Segment}
 use Rattle.card.specs.declared.layout.Numbered.the-variants.{Known, Unknown}
 use Rattle.card_form.specs.Form.{cardBytes}
-use Rattle.card_form.specs.Rows.{rowsOf, rowAt, segmentsIn}
-use Rattle.card_judge.specs.Analysed.{meaningOf, packedAt, unequal}
-use Rattle.card_judge.proofs.Analyses.{writable}
-use Rattle.packed_cards.specs.Packed.{packedMeaning, gapAt, firstGap, unwritable}
+use Rattle.card_form.specs.Rows.{rowsOf, rowAt, cardSegmentsIn, unequal}
+use Rattle.packed_cards.specs.Packed.{packedMeaning, packedGapAt, firstPackedGap, packedUnwritable}
 use Rattle.packed_call.specs.PackedCards.{packedCall}
-use Rattle.card_call.specs.Cards.{cardOf}
 use Rattle.written.specs.Outcome.{writtenAs}
-use Rattle.card_inverse.specs.Inverse.{CardOf, WrittenAgain, AnalysedIsRead}
-use Rattle.card_inverse.proofs.Inverse.{read-is-written, written-is-read}
 
 -- no segment: all numbers 0
 abbrev none : Segment
@@ -44,7 +39,7 @@ module _ (ss : List Segment) where
   as-many : length ends ≡ length ss
   as-many = length-map ss (λ (s : Segment). s .end)
 
-  segments-are : segmentsIn ends (rowsOf ss .keys) (rowsOf ss .confidences) ≡ ss
+  segments-are : cardSegmentsIn ends (rowsOf ss .keys) (rowsOf ss .confidences) ≡ ss
   segments-are = list-same _ (cardSegment ss) (length ends) (λ i h. row-is i) ∙ ap (list (cardSegment ss)) as-many ∙ list-own ss _
 
   -- a start is the end before it
@@ -52,19 +47,19 @@ module _ (ss : List Segment) where
   start-is zero = refl
   start-is (suc i) = sym (List·getD-map (λ (s : Segment). s .end) ss i none)
 
-  no-gap : (i : ℕ) → i < length ends → gapAt (rowsOf ss .starts) ends i ≡ false
+  no-gap : (i : ℕ) → i < length ends → packedGapAt (rowsOf ss .starts) ends i ≡ false
   no-gap i h =
       let same : getD (rowsOf ss .starts) i 0 ≡ before 0 (λ (k : ℕ). getD ends k 0) i = getD-list (startAt ss) (length ss) i 0 (rw as-many at h) ∙ start-is i in
       ap not (eq-eqb _ _ same)
 
-  gap-behind : length ends ≤ firstGap (rowsOf ss .starts) ends
-  gap-behind = elim (first-found (gapAt (rowsOf ss .starts) ends) (length ends) 0) [
+  gap-behind : length ends ≤ firstPackedGap (rowsOf ss .starts) ends
+  gap-behind = elim (first-found (packedGapAt (rowsOf ss .starts) ends) (length ends) 0) [
     | inl all ↦ omega (arith, all)
     | inr found ↦ absurd (never found)
   ]
     where
-      never : ((k : ℕ) × (k < length ends) × (gapAt (rowsOf ss .starts) ends (0 + k) ≡ true)) → ⊥
-      never (k, less, passes) = let z : _≡_ {A = ℕ} 0 1 = cc (no-gap k less, ap (gapAt (rowsOf ss .starts) ends) (zero-add k)) in omega arith
+      never : ((k : ℕ) × (k < length ends) × (packedGapAt (rowsOf ss .starts) ends (0 + k) ≡ true)) → ⊥
+      never (k, less, passes) = let z : _≡_ {A = ℕ} 0 1 = cc (no-gap k less, ap (packedGapAt (rowsOf ss .starts) ends) (zero-add k)) in omega arith
 
   equal : unequal (length (rowsOf ss .starts)) (length ends) (length (rowsOf ss .keys)) (length (rowsOf ss .confidences)) ≡ false
   unfolding unequal
@@ -79,29 +74,9 @@ module _ (m : Meaning) (good : cardBroken layout1 m ≡ false) where
   said : packedMeaning (m .header) (rowsOf (m .segments) .ends) (rowsOf (m .segments) .keys) (rowsOf (m .segments) .confidences) ≡ m
   said = ap (λ (ss : List Segment). record { header = m .header; segments = ss }) (segments-are (m .segments))
 
-  writable-rows : unwritable layout1 (m .header) (rowsOf (m .segments)) ≡ false
-  unfolding unwritable
+  writable-rows : packedUnwritable layout1 (m .header) (rowsOf (m .segments)) ≡ false
+  unfolding packedUnwritable
   writable-rows = rw (equal (m .segments), ap (cardBroken layout1) said ∙ good, le-ltb _ _ (gap-behind (m .segments)))
 
   pub packed-again : (lent : List ℕ) → packedCall (m .header) (rowsOf (m .segments)) lent ≡ writtenAs false (cardBytes layout1 m) lent
   packed-again lent = ap₂ (λ (b : Bool) (card : List ℕ). writtenAs b card lent) writable-rows (ap (cardBytes layout1) said)
-
--- layout 1 is the only one that is known
-only-layout1 : (l : Layout) → numberedIn layouts (l .number) ≡ Known l → l ≡ layout1
-only-layout1 l e = either (eqb (l .number) 1) e
-  where
-    either : (b : Bool) → cond b (Known layout1) Unknown ≡ Known l → l ≡ layout1
-    either true q = cc
-    either false q = let z : _≡_ {A = ℕ} 0 1 = cc in absurd (omega arith)
-
-pub written-again : WrittenAgain
-written-again bytes known rows m e lent =
-    let card = read-is-written bytes known rows m e .0 in
-    let first = only-layout1 (card .layout) (card .known) in
-    packed-again m (ap (λ (l : Layout). cardBroken l m) (sym first) ∙ card .good) lent
-    ∙ ap (λ (content : List ℕ). writtenAs false content lent) (ap (λ (l : Layout). cardBytes l m) (sym first) ∙ sym (card .written))
-
-pub analysed-is-read : AnalysedIsRead
-analysed-is-read a w rows room =
-    let card : CardOf (cardOf a) (meaningOf layout1 a) = record { layout = layout1; known = refl; good = writable layout1 a w .good; written = refl } in
-    written-is-read (cardOf a) rows (meaningOf layout1 a) card (rw (length-list (packedAt layout1 (a .ends) (a .keys) (a .confidences)) (length (a .ends))) room)

@@ -1,3 +1,5 @@
 -- That reading is the inverse of writing, and what follows for the calls.
+pub mod OneCard
 pub mod Inverse
-pub mod Again
+mod Again
+pub mod Calls

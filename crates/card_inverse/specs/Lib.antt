@@ -1,1 +1,3 @@
+pub mod OneCard
 pub mod Inverse
+pub mod Calls

@@ -4,7 +4,7 @@ use mathlib.Core.Bool.{false}
 use lib.ListN.{length}
 use Rattle.card.specs.declared.layout.Layout.{Layout}
 use Rattle.card_judge.specs.Analysed.{Analysis, packedHeader, packedAt, firstGap, unwritable}
-use Rattle.card_judge.proofs.Broken.{Asked, Held, held}
+use Rattle.card_form.proofs.Broken.{Asked, Held, held}
 
 abbrev pub asked : Layout → Analysis → Asked
 asked l a =

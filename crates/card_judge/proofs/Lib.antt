@@ -1,3 +1,2 @@
--- From broken rules, lists and gaps to the definition.
-pub mod Broken
+-- What is known of an analysis that a card holds.
 pub mod Analyses

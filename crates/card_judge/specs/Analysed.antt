@@ -12,6 +12,7 @@ use Rattle.laws.specs.Values.{plusZero}
 use Rattle.packed.specs.Packing.{numberOr, thousandthsOf, millisecondsOf}
 use Rattle.card.specs.Layout.{Meaning}
 use Rattle.card.specs.Rules.{before, cardBroken}
+use Rattle.card_form.specs.Rows.{unequal}
 use Rattle.card_judge.specs.declared.analysed.Overall.{Overall}
 use Rattle.card.specs.declared.layout.Layout.{Layout}
 use Rattle.card.specs.declared.layout.Header.{Header}
@@ -64,10 +65,6 @@ abbrev pub meaningOf : Layout → Analysis → Meaning
 meaningOf l a = meaning l (a .overall) (a .ends) (a .keys) (a .confidences)
 
 -- ---- the rules
--- the lists of an analysis are not equally long
-unfoldable pub unequal : ℕ → ℕ → ℕ → ℕ → Bool
-unequal starts ends keys confidences = anyOf (not (eqb starts ends) ∷ not (eqb keys ends) ∷ not (eqb confidences ends) ∷ [])
-
 -- segment i does not start at the end before it, or, the first, not at 0
 abbrev pub gapAt : List Float → List Float → ℕ → Bool
 gapAt starts ends i = not (eq (getD starts i nan) (before plusZero (λ (k : ℕ). getD ends k nan) i))

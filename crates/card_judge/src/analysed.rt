@@ -3,12 +3,13 @@ ghost use mathlib.Core.Path.{_≡_};
 ghost use lib.ListN.{length};
 ghost use Rattle.card.specs.Layout.{LayoutFits};
 ghost use Rattle.card.specs.Rules.{firstBroken};
-ghost use Rattle.card_judge.specs.Analysed.{packedPart, packedHeader, packedSegment, packedSegments, analysis, unequal, firstGap, unwritable};
+ghost use Rattle.card_judge.specs.Analysed.{packedPart, packedHeader, packedSegment, packedSegments, analysis, firstGap, unwritable};
 use card::layout::Header;
 use card::layout::Layout;
 use card::layout::Segment;
 use card::rules::header_broken;
 use card::rules::segment_broken;
+use card_form::unequal_lengths;
 use packed::milliseconds;
 use packed::number_or;
 use packed::thousandths;
@@ -53,13 +54,6 @@ pub fn packed_segment(l: Layout, end: f64, key: u8, confidence: f32) -> Segment
         key: key as u64,
         confidence: packed_part(confidence),
     }
-}
-
-// Whether lists of these lengths are not equally long.
-pub fn unequal_lengths(starts: usize, ends: usize, keys: usize, confidences: usize) -> bool
-    ensures { λ r. ⌜ r ≡ unequal starts ends keys confidences ⌝ }
-{
-    !(starts == ends) | !(keys == ends) | !(confidences == ends)
 }
 
 // The first segment that does not start where the one before it ends, or their count.

@@ -7,7 +7,7 @@ use native.Mathlib.Omega.{arith}
 use lib.ListN.{length, drop, getD}
 use Rattle.laws.specs.Front.{front, list}
 use Rattle.laws.proofs.Front.{length-list, getD-list}
-use Rattle.bits.specs.Bits.{bitsOf, bytesFor, withFiller, bytesOf, HasBits}
+use Rattle.bits.specs.Bits.{AllBytes, bitsOf, bytesFor, withFiller, bytesOf, HasBits}
 use Rattle.bits.specs.inside.Pens.{PenReady, BitsPut, bitCount, freshPen}
 use Rattle.bits.specs.declared.pen.Pen.{Pen}
 use Rattle.bits.proofs.Digits.{length-bits, length-cut}
@@ -110,7 +110,7 @@ module _ (l : Layout) (h : Header) (at : ℕ → Segment) (n : ℕ) where
           size-put = omega (arith, filler .moved, filler .ready .few, length-bits (fillerWidth last) 0, total, segments .ready .few)
 
           -- header, segments and filler leave the card, and the rest as it was
-          pub card-put : ((i : ℕ) → getD left i 0 < 2 ^ 8) → left ≡ front (cardBytes l (saying h at n)) bytes
+          pub card-put : AllBytes left → left ≡ front (cardBytes l (saying h at n)) bytes
           unfolding cardBytes
           card-put known =
               let size : length (cardBits l (saying h at n)) ≡ segmentPlace l n = length-card-bits l (saying h at n) ∙ ap (segmentPlace l) counted in

@@ -16,10 +16,10 @@ use Rattle.card.specs.Rules.{cardBroken}
 use Rattle.card.specs.declared.layout.Layout.{Layout}
 use Rattle.card.specs.declared.layout.Numbered.{Numbered}
 use Rattle.card.specs.declared.layout.Numbered.the-variants.{Known, Unknown}
-use Rattle.card.proofs.Fits.{CardFits, card-fits, few-segments}
+use Rattle.card.proofs.Fits.{CardFits, card-fits}
 use Rattle.card.proofs.Known.{Sound, found-sound}
 use Rattle.card_form.specs.Form.{segmentPlace, cardSize, numberOn, headerOn, countOn, segmentOn, meaningOn, fillerSet}
-use Rattle.card_reader.specs.Reading.{layoutOn, table, judgedOf}
+use Rattle.card_reader.specs.Reading.{layoutOn, readingTable, judgedOf}
 use Rattle.card_reader.specs.declared.judge.CardJudged.{CardJudged}
 use Rattle.card_reader.specs.declared.judge.CardJudged.the-variants.{Refused, Readable}
 
@@ -57,7 +57,7 @@ unfolding judgedOf
 ready bytes rows l e =
     let bits = bitsOfBytes bytes in
     let m = layoutOr1 (layoutOn bits) in
-    let fell = fell-through isReadable (table bytes bits m rows) (Readable m) {answer = Readable l} refl refl e in
+    let fell = fell-through isReadable (readingTable bytes bits m rows) (Readable m) {answer = Readable l} refl refl e in
     let same : m ≡ l = cc (fell .below) in
     let broken = cardBroken m (meaningOn m bits) in
     let filler = fillerSet m bits in
@@ -87,9 +87,6 @@ module _ {bytes : List ℕ} {rows : ℕ} {l : Layout} (r : Ready bytes rows l) w
 
   pub header-small : HeaderFits l (headerOn l bits) count
   header-small = subst (HeaderFits l (headerOn l bits)) counted (card .header)
-
-  pub count-small : count < 2 ^ 32
-  count-small = few-segments l (headerOn l bits) count (r .sound .fits) header-small
 
   pub all-there : segmentPlace l count ≤ length bytes * 8
   all-there = omega (arith, r .whole)

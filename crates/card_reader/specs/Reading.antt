@@ -19,8 +19,8 @@ abbrev pub layoutOn : List ℕ → Numbered
 layoutOn bits = numberedIn layouts (numberOn bits)
 
 -- the table from the top, for bytes with these bits, and so many rows for segments
-abbrev pub table : List ℕ → List ℕ → Layout → ℕ → List (Check CardJudged)
-table bytes bits l rows =
+abbrev pub readingTable : List ℕ → List ℕ → Layout → ℕ → List (Check CardJudged)
+readingTable bytes bits l rows =
     (ltb (length bytes) 7 gives Refused 20)
     ∷ ((isKnown (layoutOn bits) && not (eqb (length bytes) (cardSize l (countOn l bits)))) gives Refused 20)
     ∷ (not (isKnown (layoutOn bits)) gives Refused 21)
@@ -33,14 +33,14 @@ unfoldable pub judgedOf : List ℕ → ℕ → CardJudged
 judgedOf bytes rows =
     let bits = bitsOfBytes bytes in
     let l = layoutOr1 (layoutOn bits) in
-    firstOf (table bytes bits l rows) (Readable l)
+    firstOf (readingTable bytes bits l rows) (Readable l)
 
 -- what comes of a card: a refusal, or what it says
 pub data Reading : Type 0 where
   refused : ℕ → Reading
   says : Meaning → Reading
 
--- the same, from what was judged
+-- what is read of bits that were judged so
 abbrev pub readAs : List ℕ → CardJudged → Reading
 readAs bits (Refused number) = refused number
 readAs bits (Readable l) = says (meaningOn l bits)

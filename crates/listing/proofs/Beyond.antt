@@ -13,14 +13,15 @@ use Rattle.bits.specs.Bits.{numberOf, bitsOfBytes}
 use Rattle.bits.proofs.Binary.{Binary, binary-bytes}
 use Rattle.bits.proofs.Digits.{bytes-append, length-bytes}
 use Rattle.bits.proofs.Fields.{AllFit, and-fits, fields-fit}
-use Rattle.card.specs.Layout.{layout1, layouts, numberedIn, isKnown, layoutOr1}
+use Rattle.card.specs.Layout.{layout1, layouts, numberedIn, isKnown, layoutOr1, mostSegments}
 use Rattle.card.specs.declared.layout.Layout.{Layout}
 use Rattle.card.specs.declared.layout.Numbered.the-variants.{Known, Unknown}
+use Rattle.card.proofs.Known.{found-in}
 use Rattle.card_form.specs.Form.{headerWidths, cardSize, numberOn, countOn}
-use Rattle.card_reader.specs.Reading.{layoutOn, table, judgedOf, readAs}
+use Rattle.card_reader.specs.Reading.{layoutOn, readingTable, judgedOf, readAs}
 use Rattle.card_reader.specs.declared.judge.CardJudged.{CardJudged}
 use Rattle.card_reader.specs.declared.judge.CardJudged.the-variants.{Refused, Readable}
-use Rattle.listing.specs.Listing.{refusalLine, listed, mostSegments, listingOf}
+use Rattle.listing.specs.Listing.{refusalLine, listed, listingOf}
 use Rattle.listing.specs.LongInputs.{readBytes, LongInputs}
 
 -- the last of seven numbers fits the last of seven widths
@@ -30,14 +31,6 @@ last-fits (and-fits _ (and-fits _ (and-fits _ (and-fits _ (and-fits _ (and-fits 
 count-below : (bits : List ℕ) → Binary bits → 49 ≤ length bits → countOn layout1 bits < 2 ^ 10
 unfolding countOn
 count-below bits b inside = last-fits (fields-fit (headerWidths layout1) bits b inside)
-
--- whatever number a card names, layout 1 is the one that it is judged by
-found-layout : (number : ℕ) → layoutOr1 (numberedIn layouts number) ≡ layout1
-found-layout number = either (eqb number 1)
-  where
-    either : (b : Bool) → layoutOr1 (cond b (Known layout1) Unknown) ≡ layout1
-    either true = refl
-    either false = refl
 
 module _ (bytes : List ℕ) (long : 5_000 ≤ length bytes) where
   abbrev bits : List ℕ
@@ -53,11 +46,11 @@ module _ (bytes : List ℕ) (long : 5_000 ≤ length bytes) where
   unfolding judgedOf
   judged-long rows true k =
       let l = layoutOr1 (layoutOn bits) in
-      sym (reads {other = Readable l} {rows = table bytes bits l rows}
-      (next (le-ltb (length bytes) 7 (omega arith)) (here (ap₂ (λ (a b : Bool). a && not b) k (other-length l (found-layout (numberOn bits)))))))
+      sym (reads {other = Readable l} {rows = readingTable bytes bits l rows}
+      (next (le-ltb (length bytes) 7 (omega arith)) (here (ap₂ (λ (a b : Bool). a && not b) k (other-length l (found-in (λ (k : Layout). k ≡ layout1) refl (numberOn bits)))))))
   judged-long rows false k =
       let l = layoutOr1 (layoutOn bits) in
-      sym (reads {other = Readable l} {rows = table bytes bits l rows}
+      sym (reads {other = Readable l} {rows = readingTable bytes bits l rows}
       (next (le-ltb (length bytes) 7 (omega arith)) (next (ap (λ (a : Bool). a && not (eqb (length bytes) (cardSize l (countOn l bits)))) k) (here (ap not k)))))
 
 -- the number of the layout stands in the first byte

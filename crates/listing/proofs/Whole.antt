@@ -7,7 +7,7 @@ use native.Mathlib.Omega.{arith}
 use borrow.Author.Tests.{eq-eqb, ne-eqb}
 use lib.ListN.{length, length-append}
 use Rattle.bits.specs.Bits.{bitsOfBytes}
-use Rattle.card.specs.Layout.{Meaning}
+use Rattle.card.specs.Layout.{Meaning, mostSegments}
 use Rattle.card.specs.Rules.{noKey}
 use Rattle.card.specs.declared.layout.Layout.{Layout}
 use Rattle.card.specs.declared.layout.Segment.{Segment}
@@ -17,7 +17,7 @@ use Rattle.card_reader.specs.declared.judge.CardJudged.{CardJudged}
 use Rattle.card_reader.specs.declared.judge.CardJudged.the-variants.{Refused, Readable}
 use Rattle.card_reader.proofs.Ready.{ready, all-there}
 use Rattle.listing.specs.Lines.{keyLine}
-use Rattle.listing.specs.Listing.{segmentLines, noKeyLine, refusalLine, cardLines, listed, mostSegments, listingOf, longestListing}
+use Rattle.listing.specs.Listing.{segmentLines, noKeyLine, refusalLine, cardLines, listed, listingOf, longestListing}
 use Rattle.listing.specs.inside.Readable.{CanList}
 use Rattle.listing.proofs.Sizes.{key-short}
 use Rattle.listing.proofs.Segments.{lines-fit}

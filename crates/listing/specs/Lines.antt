@@ -23,7 +23,7 @@ unfoldable pub decimalIn : ℕ → ℕ → List ℕ
 decimalIn zero n = []
 decimalIn (suc places) n = cond (ltb n 10) (digitCode n ∷ []) (decimalIn places (n / 10) ++ (digitCode (n % 10) ∷ []))
 
--- a number below 10 ^ 20, as every number of 64 bits is
+-- a number's digits; it is below 10 ^ 20, as every number of 64 bits is
 unfoldable pub decimalOf : ℕ → List ℕ
 decimalOf n = decimalIn 20 n
 

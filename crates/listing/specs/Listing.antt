@@ -4,7 +4,7 @@ use mathlib.Core.Bool.{cond}
 use mathlib.Core.List.{List, [], _∷_, _++_}
 use lib.Dec.{eqb}
 use lib.ListN.{length}
-use Rattle.card.specs.Layout.{Meaning}
+use Rattle.card.specs.Layout.{Meaning, mostSegments}
 use Rattle.card.specs.Rules.{noKey, cardSegment, startAt}
 use Rattle.card.specs.declared.layout.Segment.{Segment}
 use Rattle.card_reader.specs.Reading.{Reading, refused, says, readOf}
@@ -30,7 +30,7 @@ noKeyLine = 110 ∷ 111 ∷ 32 ∷ 107 ∷ 101 ∷ 121 ∷ newline ∷ []
 unfoldable pub refusalLine : ℕ → List ℕ
 refusalLine number = refusedWord ++ numberThen number newline
 
--- the lines of what a card says: its key, and its segments; a card without a key has none
+-- the lines of what a card says: its key, and its segments; without a key one line says so
 unfoldable pub cardLines : Meaning → List ℕ
 cardLines m =
     let key = m .header .key in
@@ -41,14 +41,17 @@ abbrev pub listed : Reading → List ℕ
 listed (refused number) = refusalLine number
 listed (says m) = cardLines m
 
--- the most segments of any known layout
-abbrev pub mostSegments : ℕ
-mostSegments = 1_023
-
--- what is printed of a card's bytes; there are rows for every segment, so 24 never comes
+-- what is printed of a card's bytes; there are rows for every segment, so 24 never comes (`RoomForAll`)
 unfoldable pub listingOf : List ℕ → List ℕ
 listingOf bytes = listed (readOf bytes mostSegments)
 
--- no listing is longer: a key's line has at most 9 bytes, and a segment's 51, with numbers of 20 digits
+-- a key's line has at most so many bytes, and a segment's, with numbers of 20 digits
+abbrev pub longestKeyLine : ℕ
+longestKeyLine = 9
+
+abbrev pub longestLine : ℕ
+longestLine = 51
+
+-- no listing is longer, and a refusal's is much shorter
 abbrev pub longestListing : ℕ
-longestListing = 9 + mostSegments * 51
+longestListing = longestKeyLine + mostSegments * longestLine

@@ -5,7 +5,7 @@ use mathlib.Core.List.{List}
 use lib.ListN.{length, take}
 use Rattle.listing.specs.Listing.{listingOf}
 
--- as many bytes as the lister reads
+-- the size of the lister's buffer
 abbrev pub readBytes : ℕ
 readBytes = 65_536
 

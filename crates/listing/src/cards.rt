@@ -6,13 +6,14 @@ ghost use Rattle.laws.specs.Front.{list};
 ghost use Rattle.bits.specs.Bits.{bitsOfBytes};
 ghost use Rattle.card_form.specs.Form.{countOn, segmentOn, meaningOn};
 ghost use Rattle.listing.specs.Lines.{AtFront};
-ghost use Rattle.listing.specs.Listing.{segmentLines, refusalLine, cardLines, listingOf, longestListing};
+ghost use Rattle.listing.specs.Listing.{segmentLines, refusalLine, cardLines, listingOf, longestLine, longestListing};
 ghost use Rattle.listing.specs.inside.Readable.{CanList};
 use crate::lines::write_bytes;
-use crate::lines::write_key;
+use crate::lines::write_key_line;
 use crate::lines::write_line;
 use crate::lines::write_number;
 use card::layout::Layout;
+use card::layout::MOST_SEGMENTS;
 use card_reader::judge::CardJudged;
 use card_reader::judge::judge_card;
 use card_reader::on_card::count_on;
@@ -21,7 +22,7 @@ use card_reader::on_card::segment_on;
 
 // A line for each of the `count` segments of a card.
 fn write_lines(card: &[u8], l: Layout, count: usize, bytes: &mut [u8]) -> usize
-    requires { ⌜ CanList (now card) l × (count ≡ countOn l (bitsOfBytes (now card))) × (count * 51 ≤ length (now bytes)) ⌝ }
+    requires { ⌜ CanList (now card) l × (count ≡ countOn l (bitsOfBytes (now card))) × (count * longestLine ≤ length (now bytes)) ⌝ }
     ensures { λ r. ⌜ AtFront (segmentLines (list (segmentOn l (bitsOfBytes (now (card .entry)))) count)) (now (bytes .entry)) (now (bytes .exit)) r ⌝ }
 {
     let mut start = 0;
@@ -40,7 +41,7 @@ fn write_lines(card: &[u8], l: Layout, count: usize, bytes: &mut [u8]) -> usize
 }
 
 // What a readable card says.
-fn write_card(card: &[u8], l: Layout, bytes: &mut [u8]) -> usize
+fn write_card_lines(card: &[u8], l: Layout, bytes: &mut [u8]) -> usize
     requires { ⌜ CanList (now card) l × (longestListing ≤ length (now bytes)) ⌝ }
     ensures { λ r. ⌜ AtFront (cardLines (meaningOn l (bitsOfBytes (now (card .entry))))) (now (bytes .entry)) (now (bytes .exit)) r ⌝ }
 {
@@ -50,7 +51,7 @@ fn write_card(card: &[u8], l: Layout, bytes: &mut [u8]) -> usize
     if key == 24 {
         return write_bytes(b"no key\n", bytes);
     }
-    let at = write_key(key, bytes);
+    let at = write_key_line(key, bytes);
     at + write_lines(card, l, count, &mut bytes[at..])
 }
 
@@ -68,9 +69,9 @@ pub fn write_listing(card: &[u8], bytes: &mut [u8]) -> usize
     requires { ⌜ longestListing ≤ length (now bytes) ⌝ }
     ensures { λ r. ⌜ AtFront (listingOf (now (card .entry))) (now (bytes .entry)) (now (bytes .exit)) r ⌝ }
 {
-    let judged = judge_card(card, 1_023);
+    let judged = judge_card(card, MOST_SEGMENTS);
     match judged {
         CardJudged::Refused(number) => write_refusal(number, bytes),
-        CardJudged::Readable(l) => write_card(card, l, bytes),
+        CardJudged::Readable(l) => write_card_lines(card, l, bytes),
     }
 }

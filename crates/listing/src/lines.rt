@@ -2,14 +2,14 @@
 ghost use mathlib.Core.Path.{_≡_};
 ghost use Prim.Native.Nat.{_+_, _≤_, _<_};
 ghost use lib.ListN.{length};
-ghost use Rattle.listing.specs.Lines.{AtFront, decimalOf, numberThen, keyLine, lineOf};
+ghost use Rattle.listing.specs.Lines.{AtFront, digitCode, decimalOf, numberThen, keyLine, lineOf};
 use key_names::write_name;
 use keys::numbers::key_from_index;
 
 // The digit of a number below 10.
 fn digit(n: u64) -> u8
     requires { ⌜ n < 10 ⌝ }
-    ensures { λ r. ⌜ r ≡ 48 + n ⌝ }
+    ensures { λ r. ⌜ r ≡ digitCode n ⌝ }
 {
     48 + n as u8
 }
@@ -39,7 +39,7 @@ pub fn write_number(n: u64, behind: u8, bytes: &mut [u8]) -> usize
 }
 
 // A line with the name of a key, by its number.
-pub fn write_key(number: u64, bytes: &mut [u8]) -> usize
+pub fn write_key_line(number: u64, bytes: &mut [u8]) -> usize
     requires { ⌜ length (keyLine number) ≤ length (now bytes) ⌝ }
     ensures { λ r. ⌜ AtFront (keyLine number) (now (bytes .entry)) (now (bytes .exit)) r ⌝ }
 {
@@ -56,7 +56,7 @@ pub fn write_line(start: u64, end: u64, key: u64, bytes: &mut [u8]) -> usize
 {
     let first = write_number(start, b' ', bytes);
     let second = first + write_number(end, b' ', &mut bytes[first..]);
-    second + write_key(key, &mut bytes[second..])
+    second + write_key_line(key, &mut bytes[second..])
 }
 
 // Bytes as they are.

@@ -1,7 +1,7 @@
 // The call "write a card from packed numbers", whole.
 ghost use mathlib.Core.Path.{_≡_};
 ghost use Rattle.card_form.specs.Rows.{lentCardRows};
-ghost use Rattle.packed_call.specs.PackedCards.{packedHead, packedCall};
+ghost use Rattle.packed_call.specs.PackedCards.{headerFrom, packedCall};
 ghost use Rattle.written.specs.Outcome.{bytesOutcome};
 use card::layout::Header;
 use card::layout::layout_1;
@@ -11,8 +11,7 @@ use packed_cards::write::write_card;
 use written::Written;
 use written::refused;
 
-// Writes the key card of packed numbers from the front of `bytes`: keys by number, 24 for a missing one, thousandths,
-// and segments in four slices, in milliseconds. Refusals: 11 a card rule broken or slices of unequal length, 12 too few bytes.
+// Writes the key card of packed numbers, as reading gives them, from the front of `bytes`.
 pub fn write_packed_card(
     key: u32,
     dsp: u32,
@@ -25,7 +24,7 @@ pub fn write_packed_card(
     confidences: &[u16],
     bytes: &mut [u8],
 ) -> Written
-    ensures { λ r. ⌜ bytesOutcome r (now (bytes .exit)) ≡ packedCall (packedHead key dsp alternate coverage confidence) (lentCardRows (starts .entry) (ends .entry) (keys .entry) (confidences .entry)) (now (bytes .entry)) ⌝ }
+    ensures { λ r. ⌜ bytesOutcome r (now (bytes .exit)) ≡ packedCall (headerFrom key dsp alternate coverage confidence) (lentCardRows (starts .entry) (ends .entry) (keys .entry) (confidences .entry)) (now (bytes .entry)) ⌝ }
 {
     let h = Header {
         key: key as u64,

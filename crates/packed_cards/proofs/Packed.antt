@@ -5,8 +5,8 @@ use lib.ListN.{length}
 use Rattle.card.specs.declared.layout.Layout.{Layout}
 use Rattle.card.specs.declared.layout.Header.{Header}
 use Rattle.card_form.specs.Rows.{CardRows, rowAt}
-use Rattle.card_judge.proofs.Broken.{Asked, Held, held}
-use Rattle.packed_cards.specs.Packed.{firstGap, unwritable}
+use Rattle.card_form.proofs.Broken.{Asked, Held, held}
+use Rattle.packed_cards.specs.Packed.{firstPackedGap, packedUnwritable}
 
 abbrev pub asked : Layout → Header → CardRows → Asked
 asked l h rows =
@@ -18,9 +18,9 @@ asked l h rows =
       starts = length (rows .starts);
       keys = length (rows .keys);
       confidences = length (rows .confidences);
-      gap = firstGap (rows .starts) (rows .ends);
+      gap = firstPackedGap (rows .starts) (rows .ends);
     }
 
-pub writable : (l : Layout) (h : Header) (rows : CardRows) → unwritable l h rows ≡ false → Held (asked l h rows)
-unfolding unwritable
+pub writable : (l : Layout) (h : Header) (rows : CardRows) → packedUnwritable l h rows ≡ false → Held (asked l h rows)
+unfolding packedUnwritable
 writable l h rows w = held (asked l h rows) w

@@ -2,19 +2,19 @@
 ghost use mathlib.Core.Path.{_≡_};
 ghost use lib.ListN.{length};
 ghost use Rattle.card.specs.Rules.{firstBroken};
-ghost use Rattle.card_form.specs.Rows.{lentCardRows, segmentsIn};
-ghost use Rattle.packed_cards.specs.Packed.{firstGap, unwritable};
+ghost use Rattle.card_form.specs.Rows.{lentCardRows, cardSegmentsIn};
+ghost use Rattle.packed_cards.specs.Packed.{firstPackedGap, packedUnwritable};
 use crate::rows::row_at;
 use card::layout::Header;
 use card::layout::Layout;
 use card::rules::header_broken;
 use card::rules::segment_broken;
-use card_judge::analysed::unequal_lengths;
+use card_form::unequal_lengths;
 
 // The first segment that does not start where the one before it ends, or their count.
 fn first_gap(starts: &[u32], ends: &[u32]) -> usize
     requires { ⌜ length (now starts) ≡ length (now ends) ⌝ }
-    ensures { λ r. ⌜ r ≡ firstGap (now (starts .entry)) (now (ends .entry)) ⌝ }
+    ensures { λ r. ⌜ r ≡ firstPackedGap (now (starts .entry)) (now (ends .entry)) ⌝ }
 {
     let count = ends.len();
     let mut previous = 0;
@@ -34,7 +34,7 @@ fn first_gap(starts: &[u32], ends: &[u32]) -> usize
 // The first segment that breaks a rule, or their count.
 fn first_broken(l: Layout, ends: &[u32], keys: &[u8], confidences: &[u16]) -> usize
     requires { ⌜ (length (now keys) ≡ length (now ends)) × (length (now confidences) ≡ length (now ends)) ⌝ }
-    ensures { λ r. ⌜ r ≡ firstBroken l (segmentsIn (now (ends .entry)) (now (keys .entry)) (now (confidences .entry))) ⌝ }
+    ensures { λ r. ⌜ r ≡ firstBroken l (cardSegmentsIn (now (ends .entry)) (now (keys .entry)) (now (confidences .entry))) ⌝ }
 {
     let count = ends.len();
     let mut previous = 0;
@@ -61,7 +61,7 @@ pub fn is_unwritable(
     keys: &[u8],
     confidences: &[u16],
 ) -> bool
-    ensures { λ r. ⌜ r ≡ unwritable l h (lentCardRows (starts .entry) (ends .entry) (keys .entry) (confidences .entry)) ⌝ }
+    ensures { λ r. ⌜ r ≡ packedUnwritable l h (lentCardRows (starts .entry) (ends .entry) (keys .entry) (confidences .entry)) ⌝ }
 {
     let count = ends.len();
     if unequal_lengths(starts.len(), count, keys.len(), confidences.len()) {

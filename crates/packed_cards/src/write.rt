@@ -4,7 +4,7 @@ ghost use lib.ListN.{length};
 ghost use Rattle.laws.specs.Front.{front};
 ghost use Rattle.bits.specs.inside.Pens.{BitsPut};
 ghost use Rattle.card_form.specs.Form.{segmentsBits, cardSize, cardBytes};
-ghost use Rattle.card_form.specs.Rows.{rowAt, segmentsIn};
+ghost use Rattle.card_form.specs.Rows.{rowAt, cardSegmentsIn};
 ghost use Rattle.card_pen.specs.inside.Putting.{CanPutSegments, CanWrite};
 ghost use Rattle.packed_cards.specs.Packed.{packedMeaning};
 use crate::rows::row_at;
@@ -25,7 +25,7 @@ fn put_segments(
     confidences: &[u16],
 ) -> Pen
     requires { ⌜ CanPutSegments (now bytes) first l (rowAt (now ends) (now keys) (now confidences)) (length (now ends)) × (length (now keys) ≡ length (now ends)) × (length (now confidences) ≡ length (now ends)) ⌝ }
-    ensures { λ r. ⌜ BitsPut (now (bytes .entry)) (now (bytes .exit)) first r (segmentsBits l (segmentsIn (now (ends .entry)) (now (keys .entry)) (now (confidences .entry)))) ⌝ }
+    ensures { λ r. ⌜ BitsPut (now (bytes .entry)) (now (bytes .exit)) first r (segmentsBits l (cardSegmentsIn (now (ends .entry)) (now (keys .entry)) (now (confidences .entry)))) ⌝ }
 {
     let mut pen = first;
     let mut i = 0;

@@ -2,7 +2,6 @@
 use Prim.Native.Nat.{ℕ}
 use mathlib.Core.List.{List}
 use lib.ListN.{length}
-use Rattle.card.specs.Layout.{Meaning}
 use Rattle.card.specs.Rules.{noKey}
 use Rattle.card.specs.declared.layout.Header.{Header}
 use Rattle.card_form.specs.Rows.{CardRows, rowsIn, holdingCard}

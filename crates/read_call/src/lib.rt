@@ -87,9 +87,7 @@ fn read_segments(
     }
 }
 
-// Reads a card: its segments go to the front of the rows, and the answer tells the rest. Refusals: 20 too short or of
-// another length than its count gives, 21 a layout that is not known, 22 a card rule broken or a filler bit set, 24
-// fewer rows than segments.
+// Reads a card: its segments go to the front of the rows, and the answer tells the rest.
 pub fn read_card(
     bytes: &[u8],
     starts: &mut [u32],

@@ -29,7 +29,8 @@ use Rattle.alternates.specs.Alternate.{heldSeconds, lasting, totalOf, lastsIn, 
 use Rattle.bits.specs.Bits.{bitsOf, numberOf, bytesCut}
 use Rattle.card_form.specs.Form.{segmentsBits, cardBytes}
 use Rattle.card.specs.Rules.{headerBroken, segmentBroken, cardBroken}
-use Rattle.card_judge.specs.Analysed.{unequal, unwritable}
+use Rattle.card_form.specs.Rows.{unequal}
+use Rattle.card_judge.specs.Analysed.{unwritable}
 use Rattle.answers.specs.Answer.{keyless}
 use Rattle.sixteen.specs.Rows.{rowA, rowB, rowC, rowD, rowE, rowF, rowG, rowH, rowI, rowJ, rowK, rowL, rowM, rowN, rowO, rowP, rows, RowsHold}
 

@@ -4,7 +4,7 @@ ghost use Rattle.card_judge.specs.Analysed.{analysis};
 ghost use Rattle.written.specs.Outcome.{bytesOutcome};
 ghost use Rattle.card_call.specs.Cards.{overall, cardCall};
 ghost use Rattle.card_form.specs.Rows.{lentCardRows};
-ghost use Rattle.packed_call.specs.PackedCards.{packedHead, packedCall};
+ghost use Rattle.packed_call.specs.PackedCards.{headerFrom, packedCall};
 ghost use Rattle.read_call.specs.Reads.{readOutcome, readCall};
 use card_call::write_analysed_card;
 use packed_call::write_packed_card;
@@ -43,8 +43,8 @@ pub extern "C" fn ulyptesh_write_card(
     )
 }
 
-// Writes the key card of packed numbers from the front of `bytes`: keys by number, 24 for a missing one, thousandths,
-// and segments in four slices, in milliseconds. Refusals: 11 a card rule broken or slices of unequal length, 12 too few bytes.
+// Writes the key card of packed numbers, as reading gives them, from the front of `bytes`. Refusals: 11 a card rule
+// broken or slices of unequal length, 12 too few bytes.
 #[no_mangle]
 pub extern "C" fn ulyptesh_write_packed_card(
     key: u32,
@@ -58,7 +58,7 @@ pub extern "C" fn ulyptesh_write_packed_card(
     confidences: &[u16],
     bytes: &mut [u8],
 ) -> Written
-    ensures { λ r. ⌜ bytesOutcome r (now (bytes .exit)) ≡ packedCall (packedHead key dsp alternate coverage confidence) (lentCardRows (starts .entry) (ends .entry) (keys .entry) (confidences .entry)) (now (bytes .entry)) ⌝ }
+    ensures { λ r. ⌜ bytesOutcome r (now (bytes .exit)) ≡ packedCall (headerFrom key dsp alternate coverage confidence) (lentCardRows (starts .entry) (ends .entry) (keys .entry) (confidences .entry)) (now (bytes .entry)) ⌝ }
 {
     write_packed_card(
         key,

@@ -13,7 +13,7 @@ use Rattle.card.specs.declared.layout.Layout.{Layout}
 use Rattle.card.proofs.Known.{layout1-sound}
 use Rattle.card_form.specs.Form.{cardBytes, cardSize}
 use Rattle.card_judge.specs.Analysed.{Analysis, analysis, packedHeader, packedAt, meaningOf, unwritable}
-use Rattle.card_judge.proofs.Broken.{Held}
+use Rattle.card_form.proofs.Broken.{Held}
 use Rattle.card_judge.proofs.Analyses.{asked, writable}
 use Rattle.card_pen.proofs.Puts.{card-length, few-written}
 use Rattle.card_call.specs.Cards.{overall, cardCall}

@@ -15,19 +15,19 @@ use Rattle.card.specs.declared.layout.Segment.{Segment}
 use Rattle.card.proofs.Known.{layout1-sound}
 use Rattle.card_form.specs.Form.{cardBytes, cardSize}
 use Rattle.card_form.specs.Rows.{CardRows, lentCardRows, rowAt}
-use Rattle.card_judge.proofs.Broken.{Held}
+use Rattle.card_form.proofs.Broken.{Held}
 use Rattle.card_pen.specs.inside.Putting.{saying}
 use Rattle.card_pen.proofs.Puts.{card-length, few-written}
-use Rattle.packed_cards.specs.Packed.{unwritable}
+use Rattle.packed_cards.specs.Packed.{packedUnwritable}
 use Rattle.packed_cards.proofs.Packed.{asked, writable}
-use Rattle.packed_call.specs.PackedCards.{packedHead, packedCall}
+use Rattle.packed_call.specs.PackedCards.{headerFrom, packedCall}
 use Rattle.packed_call.proofs.write_packed_card.Statement.{statement}
 use Rattle.packed_call.proofs.write_packed_card.Tie as tie
 
 -- the header, the rows, segment i, and how many there are
 module _ (c : tie.Start) where
   abbrev header : Header
-  header = packedHead (c .args .key) (c .args .dsp) (c .args .alternate) (c .args .coverage) (c .args .confidence)
+  header = headerFrom (c .args .key) (c .args .dsp) (c .args .alternate) (c .args .coverage) (c .args .confidence)
 
   abbrev rows : CardRows
   rows = lentCardRows (c .args .starts) (c .args .ends) (c .args .keys) (c .args .confidences)
@@ -51,7 +51,7 @@ module _ (c : tie.After-layout-1) where
 
   -- whether no card holds it, its card, and the lent bytes
   abbrev flag : Bool
-  flag = unwritable l (header start) (rows start)
+  flag = packedUnwritable l (header start) (rows start)
 
   abbrev card : List ℕ
   card = cardBytes l (saying (header start) (at start) (count start))
@@ -60,7 +60,7 @@ module _ (c : tie.After-layout-1) where
   lent = start .args .bytes .now
 
   in-layout-1 : writtenAs flag card lent ≡ packedCall (header start) (rows start) lent
-  in-layout-1 = ap (λ (k : Layout). writtenAs (unwritable k (header start) (rows start)) (cardBytes k (saying (header start) (at start) (count start))) lent) (c .layout-1 .ensures)
+  in-layout-1 = ap (λ (k : Layout). writtenAs (packedUnwritable k (header start) (rows start)) (cardBytes k (saying (header start) (at start) (count start))) lent) (c .layout-1 .ensures)
 
 -- after the rules
 module _ (c : tie.Else1) where

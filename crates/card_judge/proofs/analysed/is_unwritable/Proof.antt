@@ -7,7 +7,7 @@ use Rattle.laws.proofs.Table.{told}
 use Rattle.card.specs.Rules.{headerBroken}
 use Rattle.card_judge.specs.Analysed.{analysis, unwritable}
 use Rattle.card.specs.declared.layout.Header.{Header}
-use Rattle.card_judge.proofs.Broken.{Asked, Unequal, InHeader, equal-lengths, by-lengths, by-header, by-segments, by-gaps}
+use Rattle.card_form.proofs.Broken.{Asked, Unequal, InHeader, equal-lengths, by-lengths, by-header, by-segments, by-gaps}
 use Rattle.card_judge.proofs.Analyses.{asked}
 use Rattle.card_judge.proofs.analysed.is_unwritable.Statement.{statement}
 use Rattle.card_judge.proofs.analysed.is_unwritable.Tie as tie

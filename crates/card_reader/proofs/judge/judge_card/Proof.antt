@@ -15,7 +15,7 @@ use Rattle.card.specs.Rules.{cardBroken}
 use Rattle.card.specs.declared.layout.Layout.{Layout}
 use Rattle.card.proofs.Known.{Sound, found-sound}
 use Rattle.card_form.specs.Form.{cardSize, numberOn, countOn, meaningOn, fillerSet}
-use Rattle.card_reader.specs.Reading.{layoutOn, table, judgedOf}
+use Rattle.card_reader.specs.Reading.{layoutOn, readingTable, judgedOf}
 use Rattle.card_reader.specs.declared.judge.CardJudged.{CardJudged}
 use Rattle.card_reader.specs.declared.judge.CardJudged.the-variants.{Readable}
 use Rattle.card_reader.proofs.judge.judge_card.Statement.{statement}
@@ -48,7 +48,7 @@ module _ (c : tie.After-layout-or-1) where
   sound = subst Sound (sym layout-is) (found-sound (numberOn bits))
 
 -- a row that is reached decides
-judged : (bytes : List ℕ) (rows : ℕ) {answer : CardJudged} → let l = layoutOr1 (layoutOn (bitsOfBytes bytes)) in Reads (Readable l) (table bytes (bitsOfBytes bytes) l rows) answer → answer ≡ judgedOf bytes rows
+judged : (bytes : List ℕ) (rows : ℕ) {answer : CardJudged} → let l = layoutOr1 (layoutOn (bitsOfBytes bytes)) in Reads (Readable l) (readingTable bytes (bitsOfBytes bytes) l rows) answer → answer ≡ judgedOf bytes rows
 unfolding judgedOf
 judged bytes rows r = reads r
 
@@ -163,7 +163,7 @@ module _ (c : tie.After-filler-set) where
       ∙ t
 
   -- the rows above have failed
-  past : {answer : CardJudged} → Reads (Readable (l found)) (drop 3 (table (bytes found) (bits found) (l found) rows)) answer → answer ≡ judgedOf (bytes found) rows
+  past : {answer : CardJudged} → Reads (Readable (l found)) (drop 3 (readingTable (bytes found) (bits found) (l found) rows)) answer → answer ≡ judgedOf (bytes found) rows
   past r = judged (bytes found) rows (next (long (second (size third))) (next (of-length (size third) (third .if3 .left)) (next (known (second (size third))) r)))
 
 returns-4 : tie.Need-returns-4

@@ -18,8 +18,8 @@ write-refusal-requires c κs = search needs
 enum-known-judged-2 : tie.Need-enum-known-judged-2
 enum-known-judged-2 c = search needs
 
-write-card-requires : tie.Need-write-card-requires
-write-card-requires c κs =
+write-card-lines-requires : tie.Need-write-card-lines-requires
+write-card-lines-requires c κs =
     let start = c .before .before .before .before .before .before .before in
     (can-list (start .args .card .now) _ (sym (c .before .before .before .before .judge-card .ensures) ∙ c .before .before .judged2 .given .1), start .pre)
 
@@ -37,7 +37,7 @@ same-length-2 c = search needs
 returns-2 : tie.Need-returns-2
 returns-2 c =
     let judged = sym (c .before .before .before .before .before .before .before .judge-card .ensures) ∙ c .before .before .before .before .before .judged2 .given .1 in
-    as-list (of-readable (c .before .before .before .before .before .before .before .before .before .before .args .card .now) _ judged) (c .before .before .write-card .ensures)
+    as-list (of-readable (c .before .before .before .before .before .before .before .before .before .before .args .card .now) _ judged) (c .before .before .write-card-lines .ensures)
 
 pub write-listing-spec : {M : Type 1} → statement M
 write-listing-spec =
@@ -47,7 +47,7 @@ write-listing-spec =
     enum-known-judged
     write-refusal-requires
     enum-known-judged-2
-    write-card-requires
+    write-card-lines-requires
     same-length
     returns
     same-length-2

@@ -36,34 +36,34 @@ add-second c =
     let start = c .before .before .before .before .before .before .before .before .before in
     omega (arith, part-behind (c .before .before .before .before .before .before .write-number .ensures) (c .before .before .write-number2 .ensures) .size, second-room start, start .good .1 .1 .1 .0 .0)
 
-sub-write-key : tie.Need-sub-write-key
-sub-write-key c = within (part-behind (c .before .before .before .before .before .before .write-number .ensures) (c .before .before .write-number2 .ensures))
+sub-write-key-line : tie.Need-sub-write-key-line
+sub-write-key-line c = within (part-behind (c .before .before .before .before .before .before .write-number .ensures) (c .before .before .write-number2 .ensures))
 
-part-write-key-start : tie.Need-part-write-key-start
-part-write-key-start c = within (part-behind (c .before .before .before .before .before .before .write-number .ensures) (c .before .before .write-number2 .ensures))
+part-write-key-line-start : tie.Need-part-write-key-line-start
+part-write-key-line-start c = within (part-behind (c .before .before .before .before .before .before .write-number .ensures) (c .before .before .write-number2 .ensures))
 
-part-write-key-end : tie.Need-part-write-key-end
-part-write-key-end c = search needs
+part-write-key-line-end : tie.Need-part-write-key-line-end
+part-write-key-line-end c = search needs
 
-write-key-requires : tie.Need-write-key-requires
-write-key-requires c κs =
+write-key-line-requires : tie.Need-write-key-line-requires
+write-key-line-requires c κs =
     let start = c .before .before .before .before .before .before .before .before .before .before in
     room-behind (part-behind (c .before .before .before .before .before .before .before .write-number .ensures) (c .before .before .before .write-number2 .ensures)) (keyLine (start .args .key)) (whole-room start)
 
 add-result : tie.Need-add-result
 add-result c =
     let start = c .before .before .before .before .before .before .before .before .before .before .before .before .before in
-    omega (arith, part-behind (part-behind (c .before .before .before .before .before .before .before .before .before .before .write-number .ensures) (c .before .before .before .before .before .before .write-number2 .ensures)) (c .before .before .write-key .ensures) .size, whole-room start, start .good .1 .1 .1 .0 .0)
+    omega (arith, part-behind (part-behind (c .before .before .before .before .before .before .before .before .before .before .write-number .ensures) (c .before .before .before .before .before .before .write-number2 .ensures)) (c .before .before .write-key-line .ensures) .size, whole-room start, start .good .1 .1 .1 .0 .0)
 
 same-length : tie.Need-same-length
-same-length c = same-size (part-behind (part-behind (c .before .before .before .before .before .before .before .before .before .before .write-number .ensures) (c .before .before .before .before .before .before .write-number2 .ensures)) (c .before .before .write-key .ensures)) (whole-room (c .before .before .before .before .before .before .before .before .before .before .before .before .before))
+same-length c = same-size (part-behind (part-behind (c .before .before .before .before .before .before .before .before .before .before .write-number .ensures) (c .before .before .before .before .before .before .write-number2 .ensures)) (c .before .before .write-key-line .ensures)) (whole-room (c .before .before .before .before .before .before .before .before .before .before .before .before .before))
 
 returns : tie.Need-returns
 unfolding lineOf
 returns c =
     let args = c .before .before .before .before .before .before .before .before .before .before .before .before .before .args in
     as-list (append-assoc (numberThen (args .start) blank) (numberThen (args .end) blank) (keyLine (args .key)))
-    (part-behind (part-behind (c .before .before .before .before .before .before .before .before .before .before .write-number .ensures) (c .before .before .before .before .before .before .write-number2 .ensures)) (c .before .before .write-key .ensures))
+    (part-behind (part-behind (c .before .before .before .before .before .before .before .before .before .before .write-number .ensures) (c .before .before .before .before .before .before .write-number2 .ensures)) (c .before .before .write-key-line .ensures))
 
 pub write-line-spec : {M : Type 1} → statement M
 write-line-spec =
@@ -75,10 +75,10 @@ write-line-spec =
     part-write-number-end
     write-number-requires-2
     add-second
-    sub-write-key
-    part-write-key-start
-    part-write-key-end
-    write-key-requires
+    sub-write-key-line
+    part-write-key-line-start
+    part-write-key-line-end
+    write-key-line-requires
     add-result
     same-length
     returns)

@@ -10,19 +10,19 @@ use borrow.Author.Needs.{needs}
 use Rattle.laws.specs.First.{first}
 use Rattle.laws.proofs.First.{first-start, first-again, first-out, first-end}
 use Rattle.card.specs.Rules.{before}
-use Rattle.packed_cards.specs.Packed.{gapAt, firstGap}
+use Rattle.packed_cards.specs.Packed.{packedGapAt, firstPackedGap}
 use Rattle.packed_cards.proofs.judge.first_gap.Statement.{statement}
 use Rattle.packed_cards.proofs.judge.first_gap.Tie as tie
 
 abbrev Inv-loop : tie.InvT-loop
 Inv-loop starts ends count previous₀ i₀ previous i =
-    (i ≤ count) × (first (gapAt starts ends) (count - i) i ≡ firstGap starts ends) × (previous ≡ before 0 (λ (k : ℕ). getD ends k 0) i)
+    (i ≤ count) × (first (packedGapAt starts ends) (count - i) i ≡ firstPackedGap starts ends) × (previous ≡ before 0 (λ (k : ℕ). getD ends k 0) i)
 
 abbrev μ-loop : tie.MeasureT-loop
 μ-loop starts ends count previous₀ i₀ previous i = count - i
 
 loop-holds : tie.Need-loop-holds Inv-loop μ-loop
-loop-holds c = (omega arith, first-start (gapAt (c .args .starts .now) (c .args .ends .now)) (length (c .args .ends .now)), refl)
+loop-holds c = (omega arith, first-start (packedGapAt (c .args .starts .now) (c .args .ends .now)) (length (c .args .ends .now)), refl)
 
 mul-if2 : tie.Need-mul-if2 Inv-loop μ-loop
 mul-if2 c = search needs
@@ -49,7 +49,7 @@ loop-again c =
     let i = turn .loop .i in
     let good = ap (λ (x : ℕ). not (eqb (getD (args .starts .now) i 0) x)) (sym (turn .loop .inv .2)) ∙ c .before .if2 .left in (
       omega arith,
-      first-again (gapAt (args .starts .now) (args .ends .now)) (length (args .ends .now)) i (turn .loop .inv .1) (omega arith) good,
+      first-again (packedGapAt (args .starts .now) (args .ends .now)) (length (args .ends .now)) i (turn .loop .inv .1) (omega arith) good,
       ap (before 0 (λ (k : ℕ). getD (args .ends .now) k 0)) (sym (add-one i)),
     )
 
@@ -59,7 +59,7 @@ returns c =
     let args = turn .before .args in
     let i = turn .loop .i in
     let all : length (args .ends .now) ≡ i = omega arith in
-    all ∙ first-end (gapAt (args .starts .now) (args .ends .now)) (length (args .ends .now)) i (turn .loop .inv .1) (omega arith)
+    all ∙ first-end (packedGapAt (args .starts .now) (args .ends .now)) (length (args .ends .now)) i (turn .loop .inv .1) (omega arith)
 
 returns-2 : tie.Need-returns-2 Inv-loop μ-loop
 returns-2 c =
@@ -67,7 +67,7 @@ returns-2 c =
     let args = turn .before .args in
     let i = turn .loop .i in
     let gap = ap (λ (x : ℕ). not (eqb (getD (args .starts .now) i 0) x)) (sym (turn .loop .inv .2)) ∙ c .if2 .taken in
-    first-out (gapAt (args .starts .now) (args .ends .now)) (length (args .ends .now)) i (turn .loop .inv .1) (omega arith) gap
+    first-out (packedGapAt (args .starts .now) (args .ends .now)) (length (args .ends .now)) i (turn .loop .inv .1) (omega arith) gap
 
 pub first-gap-spec : {M : Type 1} → statement M
 first-gap-spec =

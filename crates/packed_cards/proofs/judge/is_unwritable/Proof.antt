@@ -4,8 +4,8 @@ use mathlib.Core.Bool.{Bool, false}
 use borrow.Author.Needs.{needs}
 use Rattle.laws.proofs.Table.{told}
 use Rattle.card_form.specs.Rows.{lentCardRows}
-use Rattle.card_judge.proofs.Broken.{Asked, Unequal, InHeader, equal-lengths, by-lengths, by-header, by-segments, by-gaps}
-use Rattle.packed_cards.specs.Packed.{unwritable}
+use Rattle.card_form.proofs.Broken.{Asked, Unequal, InHeader, equal-lengths, by-lengths, by-header, by-segments, by-gaps}
+use Rattle.packed_cards.specs.Packed.{packedUnwritable}
 use Rattle.packed_cards.proofs.Packed.{asked}
 use Rattle.packed_cards.proofs.judge.is_unwritable.Statement.{statement}
 use Rattle.packed_cards.proofs.judge.is_unwritable.Tie as tie
@@ -29,7 +29,7 @@ unequal-lengths-requires : tie.Need-unequal-lengths-requires
 unequal-lengths-requires c κs = search needs
 
 returns : tie.Need-returns
-unfolding unwritable
+unfolding packedUnwritable
 returns c =
     let start = c .before .before .before .before .before .before in
     by-lengths (judged start) (told (c .before .unequal-lengths .ensures) (c .if1 .taken))
@@ -38,7 +38,7 @@ header-broken-requires : tie.Need-header-broken-requires
 header-broken-requires c κs = search needs
 
 returns-2 : tie.Need-returns-2
-unfolding unwritable
+unfolding packedUnwritable
 returns-2 c =
     let lengths = c .before .before in
     by-header (judged (start lengths)) (alike lengths) (in-header (c .before) (c .if2 .taken))
@@ -50,7 +50,7 @@ first-broken-requires c κs =
     (same .1, same .2)
 
 returns-3 : tie.Need-returns-3
-unfolding unwritable
+unfolding packedUnwritable
 returns-3 c =
     let header = c .before .before .before in
     by-segments (judged (start (header .before))) (alike (header .before)) (in-header header (c .before .before .if2 .left)) (c .before .first-broken .ensures) (c .if3 .taken)
@@ -61,7 +61,7 @@ first-gap-requires c κs =
     equal-lengths (judged (start lengths)) (alike lengths) .0
 
 returns-4 : tie.Need-returns-4
-unfolding unwritable
+unfolding packedUnwritable
 returns-4 c =
     let header = c .before .before .before .before in
     by-gaps (judged (start (header .before))) (alike (header .before)) (in-header header (c .before .before .before .if2 .left)) (c .before .before .first-broken .ensures) (c .before .if3 .left) (c .first-gap .ensures)

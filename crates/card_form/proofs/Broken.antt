@@ -12,7 +12,7 @@ use Rattle.laws.proofs.Table.{none-of}
 use Rattle.laws.proofs.Front.{length-list}
 use Rattle.card.specs.Layout.{Meaning}
 use Rattle.card.specs.Rules.{headerBroken, firstBroken, cardBroken}
-use Rattle.card_judge.specs.Analysed.{unequal}
+use Rattle.card_form.specs.Rows.{unequal}
 use Rattle.card.specs.declared.layout.Layout.{Layout}
 use Rattle.card.specs.declared.layout.Header.{Header}
 use Rattle.card.specs.declared.layout.Segment.{Segment}

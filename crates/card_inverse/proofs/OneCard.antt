@@ -9,7 +9,7 @@ use Rattle.card.proofs.Fits.{CardFits, card-fits}
 use Rattle.card_form.specs.Form.{numberOn, cardBytes, meaningOn}
 use Rattle.card_form.proofs.ReadBack.{card-bits, number-read, meaning-read}
 use Rattle.card_judge.proofs.Analyses.{writable}
-use Rattle.card_writer.specs.OneCard.{OneMeaningOneCard}
+use Rattle.card_inverse.specs.OneCard.{OneMeaningOneCard}
 
 -- what is read from a card's bytes is what was written, and so is the layout's number
 told : (l : Layout) (m : Meaning) → LayoutFits l → CardFits l m → meaningOn l (bitsOfBytes (cardBytes l m)) ≡ m

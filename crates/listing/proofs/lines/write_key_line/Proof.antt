@@ -9,8 +9,8 @@ use Rattle.keys.specs.Numbers.{keyAt}
 use Rattle.key_names.specs.Names.{nameOf}
 use Rattle.listing.specs.Lines.{AtFront, newline, keyLine}
 use Rattle.listing.proofs.Behind.{byte-behind}
-use Rattle.listing.proofs.lines.write_key.Statement.{statement}
-use Rattle.listing.proofs.lines.write_key.Tie as tie
+use Rattle.listing.proofs.lines.write_key_line.Statement.{statement}
+use Rattle.listing.proofs.lines.write_key_line.Tie as tie
 
 key-from-index-requires : tie.Need-key-from-index-requires
 key-from-index-requires c κs = search needs
@@ -43,5 +43,5 @@ returns : tie.Need-returns
 unfolding keyLine
 returns c = byte-behind (written c) newline (room c)
 
-pub write-key-spec : {M : Type 1} → statement M
-write-key-spec = tie.close (tie.spec key-from-index-requires write-name-requires slice-write-bytes add-result same-length returns)
+pub write-key-line-spec : {M : Type 1} → statement M
+write-key-line-spec = tie.close (tie.spec key-from-index-requires write-name-requires slice-write-bytes add-result same-length returns)

@@ -11,7 +11,7 @@ use borrow.Author.Tests.{eqb-true, not-false}
 use mathlib.Core.Bool.{false}
 use Rattle.laws.specs.Front.{list}
 use Rattle.laws.proofs.Front.{length-list}
-use Rattle.bits.specs.Bits.{bitsOf, numberOf, bitsOfBytes, bytesFor}
+use Rattle.bits.specs.Bits.{AllBytes, bitsOf, numberOf, bitsOfBytes, bytesFor}
 use Rattle.bits.proofs.Digits.{length-bytes}
 use Rattle.bits.proofs.Puts.{bits-zero, bytes-are}
 use Rattle.bits.proofs.Binary.{Binary, binary-bytes, binary-drop, spelled}
@@ -73,11 +73,11 @@ module _ (l : Layout) (bits : List ℕ) (b : Binary bits) where
       ∙ bits-zero _
 
 -- bytes of the right length, with no filler bit set, are the card of what stands on them
-pub written-again : (l : Layout) (bytes : List ℕ) → ((i : ℕ) → getD bytes i 0 < 2 ^ 8) →
+pub put-again : (l : Layout) (bytes : List ℕ) → AllBytes bytes →
     let bits = bitsOfBytes bytes in
     l .number ≡ numberOn bits → length bytes ≡ cardSize l (countOn l bits) → fillerSet l bits ≡ false → bytes ≡ cardBytes l (meaningOn l bits)
 unfolding cardBytes
-written-again l bytes known named size clear =
+put-again l bytes known named size clear =
     let bits = bitsOfBytes bytes in
     let place = segmentPlace l (countOn l bits) in
     let m = meaningOn l bits in

@@ -1,2 +1,0 @@
--- What is known of cards.
-pub mod OneCard
