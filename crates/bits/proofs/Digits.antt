@@ -5,7 +5,7 @@ use Prim.Native.Nat.{ℕ, zero, suc, _+_, _*_, _/_, _%_, _^_, _≤_, _<_}
 use native.Mathlib.Nat.{zero-add, suc-add, add-comm, mod-one, mod-eq-of-lt, lt-of-lt-of-le, le-of-lt, mul-le-mul}
 use native.Mathlib.Numerals.{add-one, one-add}
 use native.Mathlib.Omega.{arith}
-use lib.ListN.{length, take, drop, getD, set, length-append}
+use lib.ListN.{length, take, drop, set, length-append}
 use lib.Seq.{take-at, drop-at, take-suc-set}
 use lib.Arith.{digits-lt}
 use lib.Pow.{pow-add, pow-mono, shl-lt, shr-shr, field, mod-mod-pow, mod-pow-add, high, low}

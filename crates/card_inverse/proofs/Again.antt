@@ -1,23 +1,19 @@
 -- The rows of a meaning that breaks no rule are written as its card: no list is longer, no start is off.
 use mathlib.Core.Path.{_≡_, refl, sym, ap, ap₂, _∙_}
-use mathlib.Core.Bool.{Bool, true, false, not, cond}
+use mathlib.Core.Bool.{Bool, true, false, not}
 use mathlib.Core.List.{List}
 use mathlib.Core.Logic.{inl, inr}
 use Prim.Native.Nat.{ℕ, zero, suc, _+_, _<_, _≤_}
 use native.Mathlib.Nat.{zero-add}
 use native.Mathlib.Omega.{arith}
-use lib.Dec.{eqb}
 use lib.ListN.{length, getD, length-map, List·getD-map}
 use borrow.Author.Tests.{eq-eqb, le-ltb}
 use Rattle.laws.specs.Front.{list}
-use Rattle.laws.specs.First.{first}
 use Rattle.laws.proofs.Front.{length-list, getD-list, list-same, list-own}
 use Rattle.laws.proofs.First.{first-found}
-use Rattle.card.specs.Layout.{Meaning, layout1, layouts, numberedIn}
+use Rattle.card.specs.Layout.{Meaning, layout1}
 use Rattle.card.specs.Rules.{before, cardSegment, startAt, cardBroken}
-use Rattle.card.specs.declared.layout.Layout.{Layout}
 use Rattle.card.specs.declared.layout.Segment.{Segment}
-use Rattle.card.specs.declared.layout.Numbered.the-variants.{Known, Unknown}
 use Rattle.card_form.specs.Form.{cardBytes}
 use Rattle.card_form.specs.Rows.{rowsOf, rowAt, cardSegmentsIn, unequal}
 use Rattle.packed_cards.specs.Packed.{packedMeaning, packedGapAt, firstPackedGap, packedUnwritable}

@@ -1,5 +1,5 @@
 -- An outcome that is not refused tells a meaning, and its first rows are that meaning's.
-use mathlib.Core.Path.{_≡_, refl, sym, ap, ap₂, _∙_}
+use mathlib.Core.Path.{_≡_, refl, sym, ap, _∙_}
 use mathlib.Core.Bool.{false}
 use mathlib.Core.List.{List}
 use Prim.Native.Nat.{ℕ, _≤_}
@@ -8,8 +8,8 @@ use lib.ListN.{length, take, length-map}
 use lib.Seq.{take-at}
 use Rattle.laws.specs.Front.{front}
 use Rattle.laws.proofs.Front.{length-list}
-use Rattle.bits.specs.Bits.{AllBytes, bitsOfBytes}
-use Rattle.card.specs.Layout.{Meaning, layout1, layouts, numberedIn, layoutOr1}
+use Rattle.bits.specs.Bits.{AllBytes}
+use Rattle.card.specs.Layout.{layout1, layouts, numberedIn, layoutOr1}
 use Rattle.card.specs.Rules.{startAt, cardBroken}
 use Rattle.card.specs.declared.layout.Layout.{Layout}
 use Rattle.card.specs.declared.layout.Segment.{Segment}
@@ -22,11 +22,12 @@ use Rattle.card_judge.proofs.Analyses.{writable}
 use Rattle.card_call.specs.Cards.{cardOf}
 use Rattle.packed_call.specs.PackedCards.{packedCall}
 use Rattle.card_reader.specs.Reading.{Reading, refused, says, readOf}
-use Rattle.read_call.specs.Reads.{unread, readAnswer, outcomeOf, readCall}
+use Rattle.read_call.specs.Reads.{unread, readAnswer, outcomeOf}
 use Rattle.written.specs.Outcome.{writtenAs}
 use Rattle.card_inverse.specs.Inverse.{IsCardOf}
 use Rattle.card_inverse.specs.Calls.{firstRows, againCall, WrittenAgain, AnalysedIsRead}
-use Rattle.card_inverse.proofs.Inverse.{refusal-number, read-is-written, written-is-read}
+use Rattle.card_inverse.proofs.Inverse.{read-is-written, written-is-read}
+use Rattle.card_inverse.proofs.Numbers.{refusal-number}
 use Rattle.card_inverse.proofs.Again.{packed-again}
 
 -- layout 1 is the only one that is known

@@ -2,22 +2,22 @@
 use mathlib.Core.Path.{_≡_, refl, sym, ap, _∙_, subst}
 use mathlib.Core.Bool.{Bool, true, false, not, _&&_, _||_, cond}
 use mathlib.Core.List.{List, [], _∷_}
-use Prim.Native.Nat.{ℕ, _+_, _^_, _≤_}
+use Prim.Native.Nat.{ℕ, _≤_}
 use native.Mathlib.Omega.{arith}
 use lib.Dec.{eqb, ltb}
 use lib.ListN.{length}
 use borrow.Author.Tests.{eqb-true, eq-eqb, le-ltb}
-use Rattle.laws.specs.Table.{Check, _gives_, firstOf}
+use Rattle.laws.specs.Table.{firstOf}
 use Rattle.laws.proofs.Front.{length-list}
-use Rattle.laws.proofs.Table.{end, next, reads, left-failed}
+use Rattle.laws.proofs.Table.{end, next, reads}
 use Rattle.bits.specs.Bits.{AllBytes, bitsOfBytes}
-use Rattle.card.specs.Layout.{Meaning, LayoutFits, layouts, numberedIn, isKnown, layoutOr1, mostSegments}
+use Rattle.card.specs.Layout.{Meaning, layouts, numberedIn, isKnown, layoutOr1}
 use Rattle.card.specs.Rules.{cardBroken}
 use Rattle.card.specs.declared.layout.Layout.{Layout}
 use Rattle.card.specs.declared.layout.Numbered.{Numbered}
 use Rattle.card.specs.declared.layout.Numbered.the-variants.{Known, Unknown}
 use Rattle.card.proofs.Fits.{CardFits, card-fits}
-use Rattle.card.proofs.Known.{Sound, found-in, found-sound}
+use Rattle.card.proofs.Known.{Sound, found-sound}
 use Rattle.card_form.specs.Form.{cardBytes, cardSize, numberOn, countOn, segmentOn, meaningOn, fillerSet}
 use Rattle.card_form.proofs.Lengths.{length-card}
 use Rattle.card_form.proofs.ReadBack.{card-bits, number-read, count-read, meaning-read, filler-clear}
@@ -26,7 +26,7 @@ use Rattle.card_reader.specs.Reading.{refused, says, layoutOn, readingTable, ju
 use Rattle.card_reader.specs.declared.judge.CardJudged.{CardJudged}
 use Rattle.card_reader.specs.declared.judge.CardJudged.the-variants.{Refused, Readable}
 use Rattle.card_reader.proofs.Ready.{ready}
-use Rattle.card_inverse.specs.Inverse.{IsCardOf, ReadIsWritten, WrittenIsRead, RoomForAll}
+use Rattle.card_inverse.specs.Inverse.{IsCardOf, ReadIsWritten, WrittenIsRead}
 
 -- a layout that is found under a number has it
 found-number : (ls : List Layout) (number : ℕ) {l : Layout} → numberedIn ls number ≡ Known l → l .number ≡ number
@@ -116,57 +116,3 @@ written-is-read bytes rows m card room =
     let read : readOf (cardBytes l m) rows ≡ says m =
     ap (readAs (bitsOfBytes (cardBytes l m))) (judged-readable l m (card .known) (card .good) rows room) ∙ ap says (said l m (card .known) (card .good)) in
     ap (λ (b : List ℕ). readOf b rows) (card .written) ∙ read
-
--- ---- the numbers of the table
-abbrev rowsBy : Bool → Bool → Bool → Bool → Bool → List (Check CardJudged)
-rowsBy a b c d e = (a gives Refused 20) ∷ (b gives Refused 20) ∷ (c gives Refused 21) ∷ (d gives Refused 22) ∷ (e gives Refused 24) ∷ []
-
-number-least : (l : Layout) (a b c d e : Bool) {n : ℕ} → firstOf (rowsBy a b c d e) (Readable l) ≡ Refused n → 20 ≤ n
-number-least l true b c d e {n} q = let same : 20 ≡ n = cc (q) in omega arith
-number-least l false true c d e {n} q = let same : 20 ≡ n = cc (q) in omega arith
-number-least l false false true d e {n} q = let same : 21 ≡ n = cc (q) in omega arith
-number-least l false false false true e {n} q = let same : 22 ≡ n = cc (q) in omega arith
-number-least l false false false false true {n} q = let same : 24 ≡ n = cc (q) in omega arith
-number-least l false false false false false {n} q = let z : _≡_ {A = ℕ} 0 1 = cc (q) in absurd (omega arith)
-
--- where the last row never applies alone, its number is not given
-last-unreached : (l : Layout) (a b c d e : Bool) → (d ≡ false → e ≡ false) → firstOf (rowsBy a b c d e) (Readable l) ≡ Refused 24 → ⊥
-last-unreached l true b c d e never q = let z : _≡_ {A = ℕ} 20 24 = cc (q) in omega arith
-last-unreached l false true c d e never q = let z : _≡_ {A = ℕ} 20 24 = cc (q) in omega arith
-last-unreached l false false true d e never q = let z : _≡_ {A = ℕ} 21 24 = cc (q) in omega arith
-last-unreached l false false false true e never q = let z : _≡_ {A = ℕ} 22 24 = cc (q) in omega arith
-last-unreached l false false false false true never q = let z : _≡_ {A = ℕ} 0 1 = cc (never refl) in omega arith
-last-unreached l false false false false false never q = let z : _≡_ {A = ℕ} 0 1 = cc (q) in omega arith
-
--- a reading that is refused was judged so
-was-judged : (bytes : List ℕ) (rows number : ℕ) (j : CardJudged) → judgedOf bytes rows ≡ j → readAs (bitsOfBytes bytes) j ≡ refused number → judgedOf bytes rows ≡ Refused number
-was-judged bytes rows number (Refused n) e r = let same : n ≡ number = cc (r) in e ∙ ap Refused same
-was-judged bytes rows number (Readable l) e r = let z : _≡_ {A = ℕ} 0 1 = cc (r) in absurd (omega arith)
-
-judged-refused : (bytes : List ℕ) (rows number : ℕ) → readOf bytes rows ≡ refused number → judgedOf bytes rows ≡ Refused number
-judged-refused bytes rows number = was-judged bytes rows number (judgedOf bytes rows) refl
-
-pub refusal-number : (bytes : List ℕ) (rows number : ℕ) → readOf bytes rows ≡ refused number → 20 ≤ number
-unfolding judgedOf
-refusal-number bytes rows number e =
-    let l = layoutOr1 (layoutOn (bitsOfBytes bytes)) in
-    number-least l _ _ _ _ _ (judged-refused bytes rows number e)
-
--- a card that breaks no rule has no more segments than any card
-few-on : (l : Layout) (bits : List ℕ) → LayoutFits l → 2 ^ l .count ≤ mostSegments + 1 → cardBroken l (meaningOn l bits) ≡ false → countOn l bits ≤ mostSegments
-few-on l bits fits wide good =
-    let counted = length-list (segmentOn l bits) (countOn l bits) in
-    let few = card-fits l (meaningOn l bits) fits good .header .count in
-    omega (arith, few, counted, wide)
-
-pub room-for-all : RoomForAll
-unfolding judgedOf
-room-for-all bytes rows room e =
-    let bits = bitsOfBytes bytes in
-    let l = layoutOr1 (layoutOn bits) in
-    let wide = found-in (λ (k : Layout). 2 ^ k .count ≤ mostSegments + 1) (omega arith) (numberOn bits) in
-    let broken = cardBroken l (meaningOn l bits) in
-    let filler = fillerSet l bits in
-    last-unreached l _ _ _ (broken || filler) (ltb rows (countOn l bits))
-    (λ kept. le-ltb rows (countOn l bits) (omega (arith, few-on l bits (found-sound (numberOn bits) .fits) wide (left-failed broken filler kept), room)))
-    (judged-refused bytes rows 24 e)

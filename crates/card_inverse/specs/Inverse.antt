@@ -1,4 +1,4 @@
--- Reading is the exact inverse of writing, in every known layout. The statements; proofs/Inverse.antt proves them.
+-- Reading is the exact inverse of writing, in every known layout. The statements; proofs/Inverse.antt and Numbers.antt prove them.
 use mathlib.Core.Path.{_≡_}
 use mathlib.Core.Bool.{false}
 use mathlib.Core.List.{List}

@@ -4,7 +4,7 @@ use mathlib.Core.Bool.{false}
 use mathlib.Core.List.{List, _++_}
 use Prim.Native.Nat.{ℕ, _+_, _*_, _^_, _≤_, _<_}
 use native.Mathlib.Omega.{arith}
-use lib.ListN.{length, drop, getD}
+use lib.ListN.{length, drop}
 use Rattle.laws.specs.Front.{front, list}
 use Rattle.laws.proofs.Front.{length-list, getD-list}
 use Rattle.bits.specs.Bits.{AllBytes, bitsOf, bytesFor, withFiller, bytesOf, HasBits}

@@ -15,7 +15,6 @@ use Rattle.bits.proofs.Digits.{bytes-append, length-bytes}
 use Rattle.bits.proofs.Fields.{AllFit, and-fits, fields-fit}
 use Rattle.card.specs.Layout.{layout1, layouts, numberedIn, isKnown, layoutOr1, mostSegments}
 use Rattle.card.specs.declared.layout.Layout.{Layout}
-use Rattle.card.specs.declared.layout.Numbered.the-variants.{Known, Unknown}
 use Rattle.card.proofs.Known.{found-in}
 use Rattle.card_form.specs.Form.{headerWidths, cardSize, numberOn, countOn}
 use Rattle.card_reader.specs.Reading.{layoutOn, readingTable, judgedOf, readAs}
