@@ -4,7 +4,8 @@
    The calls are proved for one floating-point environment: round to nearest, ties to even, with subnormal numbers kept
    (neither flush to zero nor denormals are zero). A program starts so, and a thread starts as the one that made it was.
    Audio hosts often set flush to zero on their audio threads, and -ffast-math may set it for a whole program: whoever
-   sets it must reset it around a call. The library neither reads nor sets it.
+   sets it must reset it around a call. The library neither reads nor sets it. ulyptesh_read_card and
+   ulyptesh_write_packed_card use no floats and hold in any floating-point environment.
 
    The library allocates nothing, keeps no pointer and has no state. A slice is a pointer and a count of entries, and
    may be NULL where the count is 0. A slice that is written to overlaps no other, and the answer overlaps no slice. A
@@ -29,8 +30,9 @@
 extern "C" {
 #endif
 
-/* The number of the interface that this header declares; it grows whenever a struct, a parameter or a meaning changes.
-   A program that loads the library at run time compares it with what ulyptesh_abi answers. */
+/* The number of the interface; it grows when a struct, a parameter or a meaning changes, and ulyptesh_abi answers the
+   library's own. A new call leaves it, so a program that loads the library at run time compares the two, and looks up a
+   call that is newer by its name. */
 #define ULYPTESH_ABI 1
 /* Numbers in a chroma, from C upward. */
 #define ULYPTESH_PITCH_CLASSES 12
@@ -46,9 +48,11 @@ extern "C" {
 #define ULYPTESH_MOST_CARD_SEGMENTS 1023
 /* Bytes of a card with so many segments; at most 4,994. */
 #define ULYPTESH_CARD_BYTES(segments) ((49 + 39 * (size_t)(segments) + 7) / 8)
+/* Segments of a card of so many bytes, 7 or more. */
+#define ULYPTESH_CARD_SEGMENTS(bytes) ((8 * (size_t)(bytes) - 49) / 39)
 
 /* Why a call refuses. The first of 1 to 8 that applies is answered, and the first of 20 to 24. All but 9 and 10 write
-   nothing but the answer. */
+   nothing but the answer. Numbers that are missing are not given. */
 typedef enum UlypteshRefusal {
     /* not refused; a track that tells no key has this too, with key 24 */
     ULYPTESH_DONE = 0,
@@ -74,7 +78,7 @@ typedef enum UlypteshRefusal {
     ULYPTESH_WINDOW_STAYS = 10,
     /* key name: a number above 23; cards: a card rule is broken, or the segment slices are not equally long */
     ULYPTESH_UNWRITABLE = 11,
-    /* fewer bytes are lent than the name or card has */
+    /* fewer bytes are lent than the name or card has, and 11 does not apply */
     ULYPTESH_TOO_FEW_BYTES = 12,
     /* scores, key: a chroma not of 12 numbers, or room for fewer than 24 scores */
     ULYPTESH_WRONG_LENGTH = 18,
@@ -154,7 +158,8 @@ typedef struct UlypteshAnalyseResult {
     float chroma[ULYPTESH_PITCH_CLASSES]; /* of the whole track; a NaN is not ruled out */
 } UlypteshAnalyseResult;
 
-/* What a card says. Without a key (refused, or an empty card) the three keys are 24 and the other numbers 0. */
+/* What a card says. Without a key (refused, or an empty card) the three keys are 24, and all other numbers but the
+   refusal 0. */
 typedef struct UlypteshCardRead {
     uint32_t refusal;
     uint32_t key, dsp_key; /* the key of the track; the key by profiles alone */
@@ -221,8 +226,8 @@ UlypteshWritten ulyptesh_write_key_name(
     uint32_t number, /* at most 23 */
     uint8_t *bytes, size_t byte_count); /* the name's length, at most 8; the name, from the front */
 
-/* Writes the key card of an analysis; README.md has its fields and rules. Of the segments, lend what is written: the
-   answer's count of each slice. */
+/* Writes the key card of an analysis; README.md, which host/install puts into share/doc/ulyptesh, has its fields and
+   rules. Of the segments, lend what is written: the answer's count of each slice. */
 UlypteshWritten ulyptesh_write_card(
     uint32_t key, uint32_t dsp_key, uint32_t alternate, /* 24 for one that is missing */
     float coverage, float confidence,
@@ -232,11 +237,12 @@ UlypteshWritten ulyptesh_write_card(
     const float *confidences, size_t confidence_count, /* as many */
     uint8_t *bytes, size_t byte_count); /* ULYPTESH_CARD_BYTES of the segments; the card, from the front */
 
-/* Reads a key card. The room for its segments is the shortest of the four slices that are written to. */
+/* Reads a key card. The room for its segments is the shortest of the four slices that are written to. With 1,023 rows,
+   or with ULYPTESH_CARD_SEGMENTS of its bytes, 24 never comes. */
 UlypteshCardRead *ulyptesh_read_card(
     UlypteshCardRead *answer, /* written whole */
     const uint8_t *bytes, size_t byte_count, /* the card, exactly */
-    uint32_t *starts, size_t start_count, /* at most 1,023 are needed; the starts in milliseconds, from the front */
+    uint32_t *starts, size_t start_count, /* a row for each segment; their starts in milliseconds, from the front */
     uint32_t *ends, size_t end_count, /* as many; their ends in milliseconds, from the front */
     uint8_t *keys, size_t key_count, /* as many; their keys, from the front */
     uint16_t *confidences, size_t confidence_count); /* as many; their confidences in thousandths, from the front */
@@ -245,11 +251,11 @@ UlypteshCardRead *ulyptesh_read_card(
    that is too large for its field breaks a card rule. Of the segments, lend what was written. */
 UlypteshWritten ulyptesh_write_packed_card(
     uint32_t key, uint32_t dsp_key, uint32_t alternate, /* 24 for one that is missing */
-    uint32_t coverage, uint32_t confidence, /* in thousandths */
+    uint32_t coverage, uint32_t confidence, /* in thousandths, not the analysis' floats */
     const uint32_t *starts, size_t start_count, /* in ms, at most 1,023; each is the end before it, the first is 0 */
     const uint32_t *ends, size_t end_count, /* as many */
     const uint8_t *keys, size_t key_count, /* as many */
-    const uint16_t *confidences, size_t confidence_count, /* as many */
+    const uint16_t *confidences, size_t confidence_count, /* as many; in thousandths */
     uint8_t *bytes, size_t byte_count); /* ULYPTESH_CARD_BYTES of the segments; the card, from the front */
 
 /* The number of the library's interface: ULYPTESH_ABI where this header is the library's own. */

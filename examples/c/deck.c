@@ -1,6 +1,7 @@
-/* Reads a key card as a deck does, prints what it says, and writes it again.
+/* Reads a key card as a deck does, prints what it says, writes it again in memory and compares. After host/build:
+   cc -std=c99 -I include examples/c/deck.c examples/c/ulyptesh_easy.c target/staticlib/libulyptesh.a -lm -o deck
    deck FILE [MS]   - is standard input; with a time in milliseconds also the key that sounds there
-   Ends with 0, or tells why not and ends with 1. */
+   Ends with 0, or tells why not and ends with 1, or with 2 for bad usage. */
 #include "ulyptesh_easy.h"
 
 #include <errno.h>

@@ -3,6 +3,7 @@
    edges        all of them */
 #include "ulyptesh_easy.h"
 
+#include <fenv.h>
 #include <math.h>
 #include <stdio.h>
 #include <stdlib.h>
@@ -290,6 +291,47 @@ static int cards_written(void)
         && packed_refused(ULYPTESH_TOO_FEW_BYTES, 21, 500, 0, 1, sizeof ONE - 1);
 }
 
+/* Whether a card of so many segments, each a millisecond of C major, is read over as many rows as its bytes tell. */
+static int read_by_its_bytes(size_t segments)
+{
+    static uint32_t starts[ULYPTESH_MOST_CARD_SEGMENTS], ends[ULYPTESH_MOST_CARD_SEGMENTS];
+    static uint8_t keys[ULYPTESH_MOST_CARD_SEGMENTS], bytes[ULYPTESH_CARD_BYTES(ULYPTESH_MOST_CARD_SEGMENTS)];
+    static uint16_t confidences[ULYPTESH_MOST_CARD_SEGMENTS];
+    uint32_t key = segments > 0 ? 0 : ULYPTESH_NO_KEY;
+    UlypteshCardRead told;
+    for (size_t at = 0; at < segments; at++) {
+        starts[at] = (uint32_t)at;
+        ends[at] = (uint32_t)at + 1;
+    }
+    UlypteshWritten written = ulyptesh_write_packed_card(key, key, ULYPTESH_NO_KEY, 0, 0, starts, segments, ends,
+                                                         segments, keys, segments, confidences, segments, bytes,
+                                                         ULYPTESH_CARD_BYTES(segments));
+    size_t rows = ULYPTESH_CARD_SEGMENTS(ULYPTESH_CARD_BYTES(segments));
+    ulyptesh_read_card(&told, bytes, written.length, starts, rows, ends, rows, keys, rows, confidences, rows);
+    return HOLDS(written.refusal == ULYPTESH_DONE && written.length == ULYPTESH_CARD_BYTES(segments))
+        && HOLDS(rows == segments) && HOLDS(told.refusal == ULYPTESH_DONE && told.segments == segments);
+}
+
+/* Bytes and segments of cards of every count. */
+static int card_sizes(void)
+{
+    int done = 1;
+    for (size_t segments = 0; segments <= ULYPTESH_MOST_CARD_SEGMENTS; segments++)
+        done = done && read_by_its_bytes(segments);
+    return done;
+}
+
+/* Cards read and written from packed numbers, whichever way floats are rounded, with no sign of a float worked out. */
+static int cards_rounded(void)
+{
+    static const int WAYS[] = {FE_UPWARD, FE_DOWNWARD, FE_TOWARDZERO};
+    int done = HOLDS(feclearexcept(FE_ALL_EXCEPT) == 0);
+    for (size_t at = 0; at < sizeof WAYS / sizeof *WAYS; at++)
+        done = done && HOLDS(fesetround(WAYS[at]) == 0) && cards_read() && cards_refused() && cards_written()
+            && card_sizes() && HOLDS(fetestexcept(FE_ALL_EXCEPT) == 0);
+    return HOLDS(fesetround(FE_TONEAREST) == 0) && done;
+}
+
 /* Whether settings are refused so, with nothing made. */
 static int refused(UlypteshSettings settings, uint32_t expected)
 {
@@ -406,6 +448,8 @@ static const struct {
     {"cards-read", cards_read},
     {"cards-refused", cards_refused},
     {"cards-written", cards_written},
+    {"card-sizes", card_sizes},
+    {"cards-rounded", cards_rounded},
     {"settings-refused", settings_refused},
     {"tracks-in-turn", tracks_in_turn},
     {"no-memory", no_memory},

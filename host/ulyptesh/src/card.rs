@@ -120,7 +120,8 @@ pub struct Card {
 }
 
 impl Card {
-    /// Reads a card: these bytes, from the first to the last.
+    /// Reads a card: these bytes, from the first to the last. Refused are a wrong length (20), an unknown layout (21)
+    /// and a broken card rule or a filler bit set (22). It lends rows for the most segments, so 24 never comes.
     pub fn read(bytes: &[u8]) -> Result<Self, Refusal> {
         let (mut starts, mut ends) = ([0; MOST_CARD_SEGMENTS], [0; MOST_CARD_SEGMENTS]);
         let (mut keys, mut confidences) = ([0; MOST_CARD_SEGMENTS], [0; MOST_CARD_SEGMENTS]);

@@ -56,10 +56,12 @@ ulyptesh key-at FILE SECONDS.. --rate N [--notation WORD] [SETTING..]
 ";
 
 pub const CARD: &str = "\
-ulyptesh card FILE.. [--json | --json-lines] [--notation WORD]
+ulyptesh card FILE.. [--json | --json-lines | --notation WORD]
   What key cards say: a line for the key, or 'no key', and one for each segment with its start and its
   end in milliseconds and its key. Of several cards each stands under its file's name. A card that is
-  refused is shown as 'refused' with the number, and does not keep others from being shown.
+  refused does not keep others from being shown: 'refused' and the number, in JSON an object with it, go
+  to standard output, the words to standard error. A file that can't be read is told there alone. The
+  numbers: 20 wrong length, 21 unknown layout, 22 a card rule broken or a filler bit set.
   FILE            a card, as analyse --card or --cards writes it; - is standard input
   --json          an array with an object for each card
   --json-lines    an object a line for each card

@@ -148,7 +148,8 @@ fn by_card(told: Told) -> u64 {
     requests(|| write_card(&told.as_lent(), &mut bytes))
 }
 
-/// A card without its first byte, with a row too few and with rows enough; and what is read written again.
+/// A card without its first byte, with a row too few and with rows enough; and what is read written again, with a
+/// number too large, with a byte too few and as it is.
 fn by_reading(told: Told) -> u64 {
     let card = packed(&told).expect("an analysis that a card holds");
     let (count, mut bytes) = (told.ends.len(), vec![0; card.len()]);
@@ -162,6 +163,8 @@ fn by_reading(told: Told) -> u64 {
         let (starts, ends, keys, confidences) = (&starts[..], &ends[..], &keys[..], &confidences[..]);
         let fields =
             PackedFields { key, dsp_key, alternate, coverage, confidence, starts, ends, keys, confidences };
+        write_packed_card(&PackedFields { confidence: 1_001, ..fields }, &mut bytes);
+        write_packed_card(&fields, &mut bytes[1..]);
         write_packed_card(&fields, &mut bytes)
     })
 }

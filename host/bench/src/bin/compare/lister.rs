@@ -3,8 +3,8 @@ use crate::card_breaches::{BREACHES, broken, good};
 use crate::card_model::listing;
 use crate::card_reads::{ROW_O, ROW_P, largest};
 use crate::groups::Groups;
-use crate::tool_runs::{output_on, output_on_endless, programs, text};
-use std::path::PathBuf;
+use crate::tool_runs::{Folder, output_on, output_on_endless, programs, text};
+use std::path::{Path, PathBuf};
 use std::process::{Command, Output};
 use ulyptesh::calls::LONGEST_CARD;
 
@@ -17,13 +17,9 @@ fn program() -> Option<PathBuf> {
     place.exists().then_some(place)
 }
 
-/// What is printed; where the program fails or complains, how.
+/// What is printed; where the program does not end with 0 or complains, how.
 fn printed(ended: &Output) -> String {
-    if ended.status.code().is_some() && ended.stderr.is_empty() {
-        text(&ended.stdout)
-    } else {
-        format!("{ended:?}")
-    }
+    if ended.status.success() && ended.stderr.is_empty() { text(&ended.stdout) } else { format!("{ended:?}") }
 }
 
 /// Cards of any number of segments, the largest, rows o and p, and each rule broken.
@@ -58,6 +54,13 @@ pub fn endless_listing(front: &[u8]) -> String {
     listing(&[front, &[0; LONGEST_CARD + 1]].concat())
 }
 
+/// A folder can be opened and not read.
+fn on_a_folder(program: &Path) -> String {
+    let folder = Folder::new("lister");
+    let ended = Command::new(program).stdin(folder.open(".")).output();
+    printed(&ended.expect("the program runs"))
+}
+
 pub fn compare(groups: &mut Groups) {
     let Some(program) = program() else {
         return println!("lister: left out, as the program is not there");
@@ -78,4 +81,6 @@ pub fn compare(groups: &mut Groups) {
         |front: Vec<u8>| output_on_endless(Command::new(&program), &front).map(|ended| printed(&ended));
     let stops = |front: Vec<u8>| Some(endless_listing(&front));
     groups.group("the lister on endless input", endless_fronts().into_iter(), on_endless, stops);
+    let unread = |_| on_a_folder(&program);
+    groups.group("the lister on what can't be read", [0u32].into_iter(), unread, |_| listing(&[]));
 }
