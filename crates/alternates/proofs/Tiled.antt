@@ -1,9 +1,9 @@
 -- In a tiling a segment's length is at most its end, and no end is behind the last: so k lengths are at most k times the duration.
 use mathlib.Core.Path.{_≡_, sym, ap, _∙_, subst}
 use mathlib.Core.List.{List}
-use Prim.Native.Nat.{ℕ, zero, suc, _+_, _-_, _*_, _^_, _<_, _≤_, zero-le}
+use Prim.Native.Nat.{ℕ, zero, suc, _+_, _*_, _^_, _<_, _≤_, zero-le}
 use native.Mathlib.Numerals.{add-one}
-use native.Mathlib.Nat.{add-zero, suc-mul, mul-le-mul-right, le-refl as nat-refl}
+use native.Mathlib.Nat.{suc-mul, mul-le-mul-right, le-refl as nat-refl}
 use native.Mathlib.Omega.{arith}
 use lib.ListN.{length}
 use lib.Dec.{T}
@@ -12,14 +12,15 @@ use Rattle.laws.specs.Lists.{fold}
 use Rattle.laws.specs.Front.{list}
 use Rattle.laws.specs.Values.{plusZero, nonneg, Held}
 use Rattle.laws.specs.Convert.{parts}
-use Rattle.laws.proofs.Order.{le-refl, le-trans}
-use Rattle.laws.proofs.Nonneg.{nonneg→clear, nonneg→ordered, nonneg-under, sub-clear}
+use Rattle.laws.proofs.Order.{le-trans}
+use Rattle.laws.proofs.Nonneg.{nonneg→clear, nonneg-under, sub-clear}
 use Rattle.laws.proofs.Pick.{max-left}
 use Rattle.laws.proofs.Parts.{parts-clear, parts-held, add-under}
 use Rattle.laws.proofs.Zero.{plusZero-held, plusZero-least, sub-under}
 use Rattle.timeline.specs.Segments.{seconds, segmentAt}
 use Rattle.timeline.specs.Tiling.{Tiles}
 use Rattle.timeline.specs.declared.segment.Segment.{Segment}
+use Rattle.timeline.proofs.Tilings.{tiles-within}
 use Rattle.alternates.specs.Alternate.{heldSeconds}
 use Rattle.alternates.specs.Named.{TiledTotalFinite}
 use Rattle.alternates.proofs.Sums.{sofar, total-is, sofar-amount, sofar-more, held-amount}
@@ -39,27 +40,11 @@ module _ (duration : Float) (segments : List Segment) (tiles : Tiles duration se
       let next = subst (λ (k : ℕ). segmentAt segments k .start ≡ segmentAt segments i .end) (add-one i) (tiles .next-start i (omega (arith, h))) in
       subst (Held binary64) (sym next) (tiles .times i (omega (arith, h)))
 
-  -- no end is behind one d places on
-  ends-rise : (d i : ℕ) → i + d < length segments → T (le (segmentAt segments i .end) (segmentAt segments (i + d) .end))
-  ends-rise zero i h =
-      let end = segmentAt segments i .end in
-      subst (λ (k : ℕ). T (le end (segmentAt segments k .end))) (sym (add-zero i)) (le-refl end (nonneg→ordered end (tiles .times i (omega (arith, h)) .at-least-zero)))
-  ends-rise (suc d) i h =
-      let at : i + d + 1 ≡ i + suc d = omega arith in
-      subst (λ (k : ℕ). T (le (segmentAt segments i .end) (segmentAt segments k .end))) at
-      (le-trans (segmentAt segments i .end) (segmentAt segments (i + d) .end) (segmentAt segments (i + d + 1) .end) (ends-rise d i (omega (arith, h))) (tiles .ends-never-fall (i + d) (omega (arith, h))))
-
-  within : (i : ℕ) → i < length segments → T (le (segmentAt segments i .end) duration)
-  within i h =
-      let d = length segments - 1 - i in
-      let end : i + d + 1 ≡ length segments = omega (arith, h) in
-      subst (λ (x : Float). T (le (segmentAt segments i .end) x)) (tiles .last-end (i + d) end) (ends-rise d i (omega (arith, end)))
-
   module _ (D : ℕ) (by : T (le duration (parts binary64 0 D))) (room : length segments * D < 2 ^ 53) where
     part-under : (i : ℕ) → i < length segments → T (le (heldSeconds (segmentAt segments i)) (parts binary64 0 D))
     part-under i h =
         let s = segmentAt segments i in
-        le-trans (heldSeconds s) (s .end) (parts binary64 0 D) (held-under s (start-held i h) (tiles .times i h) (tiles .forward i h)) (le-trans (s .end) duration (parts binary64 0 D) (within i h) by)
+        le-trans (heldSeconds s) (s .end) (parts binary64 0 D) (held-under s (start-held i h) (tiles .times i h) (tiles .forward i h)) (le-trans (s .end) duration (parts binary64 0 D) (tiles-within duration segments tiles i h) by)
 
     sum-under : (k : ℕ) → k ≤ length segments → T (le (sofar segments k) (parts binary64 0 (k * D)))
     unfolding fold list

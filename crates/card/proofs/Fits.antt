@@ -1,20 +1,20 @@
 -- Numbers that break no card rule fit their widths.
-use mathlib.Core.Path.{_≡_, sym, ap, _∙_}
+use mathlib.Core.Path.{_≡_}
 use mathlib.Core.Bool.{Bool, false}
-use Prim.Native.Nat.{ℕ, _^_, _≤_, _<_}
-use native.Mathlib.Nat.{lt-of-le-of-lt, lt-of-lt-of-le, zero-add}
+use Prim.Native.Nat.{ℕ, _^_, _<_}
+use native.Mathlib.Nat.{lt-of-le-of-lt, lt-of-lt-of-le}
 use native.Mathlib.Omega.{arith}
 use lib.ListN.{length}
-use lib.Dec.{eqb, ltb}
+use lib.Dec.{eqb}
 use lib.Pow.{pow-mono}
 use borrow.Author.Tests.{ltb-false}
-use Rattle.laws.proofs.First.{first-none}
-use Rattle.laws.proofs.Table.{none-of, left-failed, right-failed}
+use Rattle.laws.proofs.Table.{none-of}
 use Rattle.card.specs.Layout.{Meaning, LayoutFits, HeaderFits, SegmentFits}
-use Rattle.card.specs.Rules.{headerTests, headerBroken, segmentTests, segmentBroken, before, brokenAt, firstBroken, cardBroken, cardSegment}
+use Rattle.card.specs.Rules.{headerTests, headerBroken, segmentTests, segmentBroken, cardSegment, startAt, cardBroken}
 use Rattle.card.specs.declared.layout.Layout.{Layout}
 use Rattle.card.specs.declared.layout.Header.{Header}
 use Rattle.card.specs.declared.layout.Segment.{Segment}
+use Rattle.card.proofs.Kept.{header-good, segment-good}
 
 header-fits : (l : Layout) (h : Header) (count : ℕ) → LayoutFits l → headerBroken l h count ≡ false → HeaderFits l h count
 unfolding headerBroken
@@ -45,15 +45,11 @@ pub record CardFits (l : Layout) (m : Meaning) : Type 0 where
   pub segment : (i : ℕ) → i < length (m .segments) → SegmentFits l (cardSegment (m .segments) i)
 
 pub card-fits : (l : Layout) (m : Meaning) → LayoutFits l → cardBroken l m ≡ false → CardFits l m
-unfolding cardBroken
 card-fits l m fits good =
     let ss = m .segments in
-    let header = headerBroken l (m .header) (length ss) in
-    let segments = ltb (firstBroken l ss) (length ss) in
-    let none : length ss ≤ firstBroken l ss = ltb-false (firstBroken l ss) (length ss) (right-failed header segments good) in
     record {
-      header = header-fits l (m .header) (length ss) fits (left-failed header segments good);
-      segment = λ i h. segment-fits l (eqb (length ss) 1) (before 0 (λ (k : ℕ). cardSegment ss k .end) i) (cardSegment ss i) fits (ap (brokenAt l ss) (sym (zero-add i)) ∙ first-none (brokenAt l ss) (length ss) 0 (rw zero-add none) i h);
+      header = header-fits l (m .header) (length ss) fits (header-good l m good);
+      segment = λ i h. segment-fits l (eqb (length ss) 1) (startAt ss i) (cardSegment ss i) fits (segment-good l m good i h);
     }
 
 -- a count that fits its width is small

@@ -52,7 +52,7 @@ module _ (f : Format) (t : ℕ) (fine : t ≤ low f) where
       (lt-of-lt-of-le (below-top n h) (mul-le-mul-right (2 ^ t) (pow-mono (N.le-suc (emax f)))))
 
   -- the number that it is
-  parts-cross : (n : ℕ) → n < 2 ^ prec f → num (parts f t n) * 2 ^ t ≡ n * den (parts f t n)
+  pub parts-cross : (n : ℕ) → n < 2 ^ prec f → num (parts f t n) * 2 ^ t ≡ n * den (parts f t n)
   parts-cross n h = value→cross (parts f t n) n (2 ^ t) (parts-value n h)
 
   pub parts-held : (n : ℕ) → n < 2 ^ prec f → Held f (parts f t n)

@@ -1,3 +1,4 @@
 -- What the functions' proofs share, on plain values.
-mod Values
 mod Rounding
+mod Values
+pub mod Down

@@ -1,7 +1,7 @@
 // Numbers as a key card packs them: thousandths and milliseconds of a float's exact value.
 ghost use mathlib.Core.Path.{_≡_};
 ghost use Prim.Native.Nat.{_^_, _≤_, _<_};
-ghost use Rattle.packed.specs.Packing.{numberOr, wholeTimes, thousandthsOf, millisecondsOf, upTo, nearestOf, raisedOf};
+ghost use Rattle.packed.specs.Packing.{numberOr, wholeTimes, thousandthsOf, millisecondsOf};
 use bits::masks::high_bits;
 use bits::masks::low_bits;
 use conversions::widen;
@@ -23,12 +23,15 @@ pub fn number_or(other: u64, packed: Packed) -> u64
     }
 }
 
-// How many whole 1 / n there are in the size of x; below 2^32.
-fn whole_times(x: f64, n: u64) -> Packed
-    requires { ⌜ (1 ≤ n) × (n ≤ 2000) ⌝ }
-    ensures { λ r. ⌜ r ≡ wholeTimes x n ⌝ }
+// How many whole 1 / n there are in x, rounded down, up to `limit`; none below 0.
+fn whole_times(x: f64, n: u64, limit: u64) -> Packed
+    requires { ⌜ (1 ≤ n) × (n ≤ 1000) × (limit < 2 ^ 32) ⌝ }
+    ensures { λ r. ⌜ r ≡ wholeTimes x n limit ⌝ }
 {
     if is_nan(x) {
+        return Packed::Refused;
+    }
+    if x < 0.0 {
         return Packed::Refused;
     }
     let bits = f64::to_bits(x);
@@ -41,22 +44,8 @@ fn whole_times(x: f64, n: u64) -> Packed
         return Packed::Number(0);
     }
     let whole = high_bits((0x10_0000_0000_0000 + digits) * n, 1075 - field);
-    if whole < 0x1_0000_0000 {
+    if whole <= limit {
         Packed::Number(whole)
-    } else {
-        Packed::Refused
-    }
-}
-
-// A number up to `limit`.
-fn up_to(limit: u64, parts: Packed) -> Packed
-    ensures { λ r. ⌜ r ≡ upTo limit parts ⌝ }
-{
-    let Packed::Number(n) = parts else {
-        return Packed::Refused;
-    };
-    if n <= limit {
-        Packed::Number(n)
     } else {
         Packed::Refused
     }
@@ -66,49 +55,13 @@ fn up_to(limit: u64, parts: Packed) -> Packed
 pub fn thousandths(x: f32) -> Packed
     ensures { λ r. ⌜ r ≡ thousandthsOf x ⌝ }
 {
-    if x < 0.0 {
-        return Packed::Refused;
-    }
-    up_to(1000, whole_times(widen(x), 1000))
+    whole_times(widen(x), 1000, 1000)
 }
 
-// The number of whole units nearest to a number of halves, halves up, up to `limit`.
-fn nearest_of(limit: u64, halves: Packed) -> Packed
-    ensures { λ r. ⌜ r ≡ nearestOf limit halves ⌝ }
-{
-    let Packed::Number(h) = halves else {
-        return Packed::Refused;
-    };
-    let nearest = h / 2 + h % 2;
-    if nearest <= limit {
-        Packed::Number(nearest)
-    } else {
-        Packed::Refused
-    }
-}
-
-// The same below 0: less than one half goes up to 0.
-fn raised_of(halves: Packed) -> Packed
-    ensures { λ r. ⌜ r ≡ raisedOf halves ⌝ }
-{
-    let Packed::Number(h) = halves else {
-        return Packed::Refused;
-    };
-    if h == 0 {
-        Packed::Number(0)
-    } else {
-        Packed::Refused
-    }
-}
-
-// The milliseconds of x seconds, to the nearest, halves up, from 0 to `limit`.
+// The milliseconds of x seconds, rounded down, from 0 to `limit`.
 pub fn milliseconds(x: f64, limit: u64) -> Packed
-    requires { ⌜ limit < 2 ^ 31 ⌝ }
+    requires { ⌜ limit < 2 ^ 32 ⌝ }
     ensures { λ r. ⌜ r ≡ millisecondsOf x limit ⌝ }
 {
-    let halves = whole_times(x, 2000);
-    if x < 0.0 {
-        return raised_of(halves);
-    }
-    nearest_of(limit, halves)
+    whole_times(x, 1000, limit)
 }

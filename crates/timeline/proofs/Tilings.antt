@@ -1,7 +1,7 @@
--- Tiling from one time to another, segment by segment, as a list is built and joined; and the way to demand 3's words, which go by index.
+-- Tiling from one time to another, segment by segment, as a list is built and joined; the way to demand 3's words, which go by index, and what they give.
 use mathlib.Core.Path.{_≡_, refl, sym, ap, subst, _∙_}
-use Prim.Native.Nat.{ℕ, zero, suc, _+_, _<_, suc-le-suc}
-use native.Mathlib.Nat.{zero-lt-suc, not-suc-le-zero, le-of-suc-le-suc}
+use Prim.Native.Nat.{ℕ, zero, suc, _+_, _-_, _<_, suc-le-suc}
+use native.Mathlib.Nat.{add-zero, zero-lt-suc, not-suc-le-zero, le-of-suc-le-suc}
 use native.Mathlib.Numerals.{add-one}
 use native.Mathlib.Omega.{arith}
 use mathlib.Core.List.{List, [], _∷_, _++_}
@@ -9,6 +9,8 @@ use lib.ListN.{length}
 use lib.Dec.{T}
 use lib.Ieee.{Float, binary64, le}
 use Rattle.laws.specs.Values.{plusZero, Held}
+use Rattle.laws.proofs.Order.{le-refl, le-trans}
+use Rattle.laws.proofs.Nonneg.{nonneg→ordered}
 use Rattle.timeline.specs.Segments.{segmentAt}
 use Rattle.timeline.specs.Tiling.{Tiles}
 use Rattle.timeline.specs.declared.segment.Segment.{Segment}
@@ -90,3 +92,22 @@ tiles→chain duration (s ∷ r) t =
     (λ i h. ap (λ (k : ℕ). segmentAt (s ∷ r) k .start) (sym (add-one i)) ∙ t .next-start i (rw (add-one i) h))
     (λ i e. t .last-end i (add-one i ∙ e))
     (t .forward)
+
+-- ---- ends of tiles
+module _ (duration : Float) (segments : List Segment) (tiles : Tiles duration segments) where
+  -- no end is behind one d places on
+  ends-rise : (d i : ℕ) → i + d < length segments → T (le (segmentAt segments i .end) (segmentAt segments (i + d) .end))
+  ends-rise zero i h =
+      let end = segmentAt segments i .end in
+      subst (λ (k : ℕ). T (le end (segmentAt segments k .end))) (sym (add-zero i)) (le-refl end (nonneg→ordered end (tiles .times i (omega (arith, h)) .at-least-zero)))
+  ends-rise (suc d) i h =
+      let at : i + d + 1 ≡ i + suc d = omega arith in
+      subst (λ (k : ℕ). T (le (segmentAt segments i .end) (segmentAt segments k .end))) at
+      (le-trans (segmentAt segments i .end) (segmentAt segments (i + d) .end) (segmentAt segments (i + d + 1) .end) (ends-rise d i (omega (arith, h))) (tiles .ends-never-fall (i + d) (omega (arith, h))))
+
+  -- so none is behind the duration
+  pub tiles-within : (i : ℕ) → i < length segments → T (le (segmentAt segments i .end) duration)
+  tiles-within i h =
+      let d = length segments - 1 - i in
+      let end : i + d + 1 ≡ length segments = omega (arith, h) in
+      subst (λ (x : Float). T (le (segmentAt segments i .end) x)) (tiles .last-end (i + d) end) (ends-rise d i (omega (arith, end)))

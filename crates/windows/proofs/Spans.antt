@@ -61,6 +61,13 @@ whole-rounds f m n few some small =
     crossed a p b q d e =
         mul-assoc a q n ∙ ap (λ (z : ℕ). a * z) (mul-comm q n ∙ sym e ∙ mul-one b) ∙ ap (λ (z : ℕ). z * b) (sym (mul-one a) ∙ d) ∙ mul-assoc m p b ∙ ap (λ (z : ℕ). m * z) (mul-comm p b)
 
+-- a sample's time
+pub seconds-round : (s : Settings) (sample : ℕ) → sample < 2 ^ 53 → 0 < s .rate → s .rate < 2 ^ 53 → Rounds binary64 (secondsAt s sample) sample (s .rate)
+unfolding secondsAt
+seconds-round s sample few rated slow =
+    subst₂ (λ (x y : Float). Rounds binary64 (div binary64 x y) sample (s .rate)) (sym (whole-is binary64 sample)) (sym (whole-is binary64 (s .rate)))
+    (whole-rounds binary64 sample (s .rate) few rated slow)
+
 rounds-fit : {f : Format} {x : Float} {a c : ℕ} → Rounds f x a c → T (fits f x)
 rounds-fit {f} {x} {a} {c} r = subst (λ (z : Float). T (fits f z)) (sym (r .is)) (round-fits f false a c)
 
@@ -79,10 +86,8 @@ finite-clear (fin s m e) h c = c
 
 module _ (s : Settings) (count : ℕ) (rated : 0 < s .rate) (slow : s .rate ≤ 192_000) (short : count ≤ longestTrack * s .rate) where
   lasts : Rounds binary64 (spanOf s count .duration) count (s .rate)
-  unfolding spanOf secondsAt
-  lasts =
-      subst₂ (λ (x y : Float). Rounds binary64 (div binary64 x y) count (s .rate)) (sym (whole-is binary64 count)) (sym (whole-is binary64 (s .rate)))
-      (whole-rounds binary64 count (s .rate) (omega arith) rated (omega arith))
+  unfolding spanOf
+  lasts = seconds-round s count (omega arith) rated (omega arith)
 
   pub duration-under : T (le (spanOf s count .duration) (parts binary64 0 longestTrack))
   duration-under = rounds-mono lasts (parts-rounds binary64 0 longestTrack) (omega arith)

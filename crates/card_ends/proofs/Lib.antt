@@ -1,0 +1,3 @@
+-- That no end lies after the track.
+pub mod Times
+pub mod Ends

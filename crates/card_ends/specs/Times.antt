@@ -1,0 +1,27 @@
+-- Milliseconds beside the samples of a track, in whole numbers. Definitions and the statement; proofs/Times.antt proves it.
+use mathlib.Core.Path.{_≡_}
+use Prim.Native.Nat.{ℕ, _*_, _^_, _≤_, _<_}
+use lib.Dec.{T}
+use lib.Ieee.{Float, le}
+use Rattle.calls.specs.Call.{secondsAt}
+use Rattle.calls.specs.declared.Settings.{Settings}
+use Rattle.packed.specs.Packing.{millisecondsOf}
+use Rattle.packed.specs.declared.Packed.the-variants.{Number}
+use Rattle.timeline.specs.Tiling.{Time}
+
+-- n milliseconds are no longer than so many samples at that rate: n / 1000 ≤ samples / rate
+abbrev pub Inside : ℕ → ℕ → ℕ → Type 0
+Inside n rate samples = n * rate ≤ 1000 * samples
+
+-- a track as the checks leave it, of so many seconds at most; 2 ^ 25 seconds are more than a year
+pub record Lasting (seconds : ℕ) (s : Settings) (samples : ℕ) : Type 0 where
+  pub rated : 0 < s .rate
+  pub slow : s .rate ≤ 192_000
+  pub short : samples ≤ seconds * s .rate
+  pub moderate : seconds < 2 ^ 25
+
+-- whatever the limit in seconds: the milliseconds of a time up to the duration lie inside the track, though the duration is rounded to f64
+abbrev pub TimesInside : Type 0
+TimesInside =
+    (seconds : ℕ) (s : Settings) (samples : ℕ) → Lasting seconds s samples →
+    (x : Float) → Time x → T (le x (secondsAt s samples)) → (limit n : ℕ) → millisecondsOf x limit ≡ Number n → Inside n (s .rate) samples
