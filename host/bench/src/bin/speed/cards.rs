@@ -1,8 +1,8 @@
-//! Key cards read, and written again from what was read: nanoseconds for one card. The Rust has no cards, so nothing
-//! stands beside them.
+//! Key cards read, written again from what was read, and written from an analysis: nanoseconds for one card. The Rust
+//! has no cards, so nothing stands beside them.
 use crate::rounds::{median_of, seconds};
 use ulyptesh::calls::LONGEST_CARD;
-use ulyptesh::calls::{CardRead, PackedFields, read_card, write_packed_card};
+use ulyptesh::calls::{CardFields, CardRead, PackedFields, read_card, write_card, write_packed_card};
 
 /// Segments of a card, and how many cards are a round.
 const CARDS: [(usize, usize); 2] = [(5, 100_000), (1_023, 1_000)];
@@ -52,6 +52,41 @@ impl Rows {
     }
 }
 
+/// The same segments as an analysis tells them: times in seconds, parts of one.
+struct Analysed {
+    starts: Vec<f64>,
+    ends: Vec<f64>,
+    keys: Vec<u8>,
+    confidences: Vec<f32>,
+}
+
+impl Analysed {
+    fn new(rows: &Rows) -> Self {
+        let times = |borders: &[u32]| borders.iter().map(|&border| f64::from(border) / 1e3).collect();
+        Self {
+            starts: times(&rows.starts),
+            ends: times(&rows.ends),
+            keys: rows.keys.clone(),
+            confidences: rows.confidences.iter().map(|&part| f32::from(part) / 1e3).collect(),
+        }
+    }
+
+    fn write(&self, bytes: &mut [u8]) -> usize {
+        let fields = CardFields {
+            key: 0,
+            dsp_key: 0,
+            alternate: 1,
+            coverage: 0.25,
+            confidence: 0.5,
+            starts: &self.starts,
+            ends: &self.ends,
+            keys: &self.keys,
+            confidences: &self.confidences,
+        };
+        write_card(&fields, bytes).length
+    }
+}
+
 /// Nanoseconds of one turn.
 fn nanoseconds(turns: usize, mut turn: impl FnMut() -> u64) -> f64 {
     median_of(ROUNDS, || seconds(|| (0..turns).map(|_| turn()).sum::<u64>()) * 1e9 / turns as f64)
@@ -63,11 +98,14 @@ fn print_row(count: usize, turns: usize) {
     card.truncate(length);
     assert_eq!(rows.read(&card).segments, count as u64);
     let reading = nanoseconds(turns, || rows.read(&card).segments);
-    let writing = nanoseconds(turns, || rows.write(&mut card) as u64);
-    println!("{:30} {reading:10.1} {writing:10.1}", format!("{count} segments"));
+    let again = nanoseconds(turns, || rows.write(&mut card) as u64);
+    let analysed = Analysed::new(&rows);
+    assert_eq!(analysed.write(&mut card), length);
+    let first = nanoseconds(turns, || analysed.write(&mut card) as u64);
+    println!("{:30} {reading:10.1} {again:10.1} {first:10.1}", format!("{count} segments"));
 }
 
 pub fn print_rows() {
-    println!("{:30} {:>10} {:>10}", "ns for one card, ours alone", "read", "written");
+    println!("{:30} {:>10} {:>10} {:>10}", "ns for one card, ours alone", "read", "again", "analysed");
     CARDS.into_iter().for_each(|(count, turns)| print_row(count, turns));
 }
