@@ -4,6 +4,7 @@ use crate::card_model::listing;
 use crate::card_reads::{ROW_O, ROW_P, largest};
 use crate::groups::Groups;
 use crate::tool_runs::{Folder, output_on, output_on_endless, programs, text};
+use std::env::consts::ARCH;
 use std::path::{Path, PathBuf};
 use std::process::{Command, Output};
 use ulyptesh::calls::LONGEST_CARD;
@@ -15,6 +16,18 @@ const STREAM: u64 = 290_000;
 fn program() -> Option<PathBuf> {
     let place = programs().join("../../bin/lister");
     place.exists().then_some(place)
+}
+
+/// The program, not yet run. It is compiled for x86-64; elsewhere the toolchain's emulator runs it.
+fn command(program: &Path) -> Command {
+    if ARCH == "x86_64" {
+        return Command::new(program);
+    }
+    let toolchain = programs().join(format!("../../kit/on/{ARCH}/toolchain"));
+    let mut command = Command::new(toolchain.join("bin/qemu-x86_64"));
+    command.arg(toolchain.join("lib/ld-linux-x86-64.so.2"));
+    command.arg("--library-path").args([&toolchain.join("lib"), program]);
+    command
 }
 
 /// What is printed; where the program does not end with 0 or complains, how.
@@ -57,7 +70,7 @@ pub fn endless_listing(front: &[u8]) -> String {
 /// A folder can be opened and not read.
 fn on_a_folder(program: &Path) -> String {
     let folder = Folder::new("lister");
-    let ended = Command::new(program).stdin(folder.open(".")).output();
+    let ended = command(program).stdin(folder.open(".")).output();
     printed(&ended.expect("the program runs"))
 }
 
@@ -65,9 +78,9 @@ pub fn compare(groups: &mut Groups) {
     let Some(program) = program() else {
         return println!("lister: left out, as the program is not there");
     };
-    let on = |bytes: &[u8]| printed(&output_on(Command::new(&program), [bytes]));
-    let by_byte = |bytes: Vec<u8>| printed(&output_on(Command::new(&program), bytes.chunks(1)));
-    let by_part = |bytes: Vec<u8>| printed(&output_on(Command::new(&program), bytes.chunks(700)));
+    let on = |bytes: &[u8]| printed(&output_on(command(&program), [bytes]));
+    let by_byte = |bytes: Vec<u8>| printed(&output_on(command(&program), bytes.chunks(1)));
+    let by_part = |bytes: Vec<u8>| printed(&output_on(command(&program), bytes.chunks(700)));
     let rows = [(ROW_O.to_vec(), "A minor\n0 180000 A minor\n"), (ROW_P.to_vec(), "no key\n")];
     let nth_row = |nth: usize| rows[nth].1.to_string();
     groups.group("the lister on rows o and p", 0..rows.len(), |nth| on(&rows[nth].0), nth_row);
@@ -78,7 +91,7 @@ pub fn compare(groups: &mut Groups) {
     groups.group("the lister, byte by byte", rows.iter().map(|row| row.0.clone()), by_byte, listed);
     groups.group("the lister, part by part", [largest().joined()].into_iter(), by_part, listed);
     let on_endless =
-        |front: Vec<u8>| output_on_endless(Command::new(&program), &front).map(|ended| printed(&ended));
+        |front: Vec<u8>| output_on_endless(command(&program), &front).map(|ended| printed(&ended));
     let stops = |front: Vec<u8>| Some(endless_listing(&front));
     groups.group("the lister on endless input", endless_fronts().into_iter(), on_endless, stops);
     let unread = |_| on_a_folder(&program);
