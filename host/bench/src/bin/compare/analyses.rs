@@ -1,6 +1,6 @@
 //! Analyses as a card is written from them: such as it holds, and such as break one of its rules.
 use crate::card_model::length_of;
-use crate::packed::LONGEST;
+use crate::packed::{LONGEST, exact_milliseconds};
 use bench::inputs::random::patterns;
 use ulyptesh::calls::{CardFields, NO_KEY};
 
@@ -40,14 +40,22 @@ impl Told {
         }
     }
 
-    /// Ends in milliseconds become the segments' borders, each moved by less than half a millisecond.
+    /// Ends in milliseconds become the segments' borders, each moved by less than a millisecond.
     fn set_ends(&mut self, milliseconds: impl Iterator<Item = u64>, moves: &mut impl Iterator<Item = u64>) {
-        self.ends = milliseconds
-            .map(|end| {
-                end as f64 / 1000.0 + if end == 0 { 0.0 } else { fraction(moves) * 0.000_998 - 0.000_499 }
-            })
-            .collect();
+        self.ends = milliseconds.map(|end| moved(end, moves)).collect();
         self.starts = std::iter::once(0.0).chain(self.ends.iter().copied()).take(self.ends.len()).collect();
+    }
+}
+
+/// A number of milliseconds in seconds, a step beside that, or on the way to the next one; never below 0.
+fn moved(milliseconds: u64, random: &mut impl Iterator<Item = u64>) -> f64 {
+    let seconds = milliseconds as f64 / 1000.0;
+    match (milliseconds, below(6, random)) {
+        (_, 0) => seconds,
+        (_, 1) => seconds.next_up(),
+        (0, 2) => -0.0,
+        (_, 2) => seconds.next_down(),
+        _ => seconds + fraction(random) * 0.000_999,
     }
 }
 
@@ -77,13 +85,14 @@ fn part(random: &mut impl Iterator<Item = u64>) -> f32 {
     }
 }
 
-/// Milliseconds that rise from above 0 to at most the last end.
+/// Milliseconds that rise from above 1 to at most the last end, two apart at least: an end that is moved down stays
+/// behind the one before it.
 fn rising(count: usize, random: &mut impl Iterator<Item = u64>) -> Vec<u64> {
     let room = LAST_END / count.max(1) as u64;
     let mut end = 0;
     (0..count)
         .map(|_| {
-            end += 1 + below(room, random);
+            end += 2 + below(room - 1, random);
             end
         })
         .collect()
@@ -169,8 +178,20 @@ fn place(told: &Told, any: u64) -> usize {
     any as usize % told.ends.len()
 }
 
+fn below_zero(any: u64) -> f64 {
+    [-5e-324, -0.000_4, -0.000_501, -1.0, f64::NEG_INFINITY][(any % 5) as usize]
+}
+
+/// One segment is left.
+fn keep_first(told: &mut Told) {
+    told.starts.truncate(1);
+    told.ends.truncate(1);
+    told.keys.truncate(1);
+    told.confidences.truncate(1);
+}
+
 /// Each rule, broken alone.
-pub const BREACHES: [Breach; 30] = [
+pub const BREACHES: [Breach; 31] = [
     Breach { rule: "key above 24", breaks: |told, any| told.key = no_key(24, any) },
     Breach { rule: "DSP key above 24", breaks: |told, any| told.dsp_key = no_key(24, any) },
     Breach { rule: "alternate above 24", breaks: |told, any| told.alternate = no_key(24, any) },
@@ -235,7 +256,9 @@ pub const BREACHES: [Breach; 30] = [
         rule: "an end in the millisecond of the one before",
         breaks: |told, any| {
             let at = 1 + any as usize % (told.ends.len() - 1);
-            told.ends[at] = told.ends[at - 1];
+            let millisecond = exact_milliseconds(told.ends[at - 1]) as f64;
+            told.ends[at - 1] = (millisecond + 0.4) / 1000.0;
+            told.ends[at] = (millisecond + [0.4, 0.6, 0.9][(any >> 32) as usize % 3]) / 1000.0;
             chain(told);
         },
     },
@@ -250,22 +273,29 @@ pub const BREACHES: [Breach; 30] = [
     Breach {
         rule: "first of several ends at 0",
         breaks: |told, any| {
-            told.ends[0] = [0.0, -0.0, 0.000_499, -0.000_4][(any % 4) as usize];
+            told.ends[0] = [0.0, -0.0, 0.000_5, 0.001f64.next_down()][(any % 4) as usize];
             chain(told);
         },
     },
     Breach {
         rule: "an end below 0",
         breaks: |told, any| {
-            told.ends[0] = [-0.000_501, -1.0, f64::NEG_INFINITY][(any % 3) as usize];
+            told.ends[0] = below_zero(any);
             chain(told);
+        },
+    },
+    Breach {
+        rule: "a lone end below 0",
+        breaks: |told, any| {
+            keep_first(told);
+            told.ends[0] = below_zero(any);
         },
     },
     Breach {
         rule: "last end above 14,400 s",
         breaks: |told, any| {
             *told.ends.last_mut().expect("several") =
-                [14_400.000_5, 14_400.001, 1e300, f64::INFINITY][(any % 4) as usize];
+                [14_400.001f64.next_up(), 14_400.002, 1e300, f64::INFINITY][(any % 4) as usize];
             chain(told);
         },
     },

@@ -33,22 +33,35 @@ fn up_to(limit: u64, n: u128) -> u64 {
     if n <= u128::from(limit) { n as u64 } else { REFUSED }
 }
 
-/// The exact value times 1000, rounded down.
-pub fn exact_thousandths(x: f32) -> u64 {
+/// The exact value times 1000, rounded down, up to the limit; -0 has 0, and what is below 0 has none.
+fn whole_thousandths(x: f64, limit: u64) -> u64 {
     if x.is_nan() || x < 0.0 {
         return REFUSED;
     }
-    fraction(x.into()).map_or(REFUSED, |(digits, places)| up_to(1000, halved(digits * 1000, places)))
+    fraction(x).map_or(REFUSED, |(digits, places)| up_to(limit, halved(digits * 1000, places)))
 }
 
-/// The exact value times 1000, to the nearest, halves up, by its whole halves; below 0 no number is exactly one half.
+/// The thousandths of a part.
+pub fn exact_thousandths(x: f32) -> u64 {
+    whole_thousandths(x.into(), 1000)
+}
+
+/// The milliseconds of a time in seconds.
 pub fn exact_milliseconds(x: f64) -> u64 {
-    let halves = fraction(x.abs()).map(|(digits, places)| halved(digits * 2000, places));
-    match halves {
-        Some(0) => 0,
-        Some(halves) if x > 0.0 => up_to(LONGEST * 1000, halves.div_ceil(2)),
-        _ => REFUSED,
-    }
+    whole_thousandths(x, 1000 * LONGEST)
+}
+
+/// Whether a track's time in seconds is below so many milliseconds, exactly.
+pub fn is_before(x: f64, milliseconds: u64) -> bool {
+    let (digits, places) = fraction(x).expect("a time below 2^53");
+    // where there are more places, the time is below a quarter of a millisecond
+    milliseconds > 0 && (places > 64 || digits * 1000 < u128::from(milliseconds) << places)
+}
+
+/// The milliseconds that a card had of a track's time before they were rounded down: the nearest, halves up.
+pub fn nearest_milliseconds(x: f64) -> u64 {
+    let (digits, places) = fraction(x).expect("a time below 2^53");
+    halved(digits * 2000, places).div_ceil(2) as u64
 }
 
 /// Every multiple of 1/1000 up to 1 with the numbers around it.
@@ -59,13 +72,21 @@ fn around_thousandths() -> impl Iterator<Item = f32> {
     })
 }
 
+/// Every millisecond up to the longest track, and some behind it, with the numbers around it.
+fn around_milliseconds() -> impl Iterator<Item = f64> {
+    (0..1000 * LONGEST + 10).flat_map(|n| {
+        let x = n as f64 / 1000.0;
+        [x.next_down(), x, x.next_up()]
+    })
+}
+
 /// Every half of a millisecond up to a tenth of a second, and up to the longest track from a tenth before it,
-/// with the numbers around it.
+/// with the numbers around it, and as far below 0.
 fn around_halves() -> impl Iterator<Item = f64> {
     let end = 2000 * LONGEST;
     (0..200).chain(end - 200..end + 10).flat_map(|n| {
         let x = n as f64 / 2000.0;
-        [x.next_down(), x, x.next_up(), -x]
+        [x.next_down(), x, x.next_up(), -x, -x.next_up()]
     })
 }
 
@@ -89,6 +110,7 @@ pub fn compare(groups: &mut Groups) {
     groups.group("thousandths, 0 to 1", parts(seed), thousandths, exact_thousandths);
     groups.group("thousandths, edges of the format", f32_values(seed), thousandths, exact_thousandths);
     let milliseconds = |x: f64| probe_milliseconds(x);
+    groups.group("milliseconds, around each", around_milliseconds(), milliseconds, exact_milliseconds);
     groups.group("milliseconds, around halves", around_halves(), milliseconds, exact_milliseconds);
     groups.group("milliseconds, of a track", seconds(seed), milliseconds, exact_milliseconds);
     groups.group("milliseconds, edges of the format", f64_values(seed), milliseconds, exact_milliseconds);
