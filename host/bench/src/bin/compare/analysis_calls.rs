@@ -1,6 +1,7 @@
 //! Calls for a whole analysis, and the request's check table over them.
 use crate::frame_calls;
 use crate::groups::Compared;
+use crate::track_ends::Length;
 use crate::windows::rows_asked;
 use bench::probe::segments::Track;
 use std::sync::Arc;
@@ -35,6 +36,10 @@ impl Asked {
     pub fn track(&self) -> Track {
         let (settings, samples) = (self.call.settings, self.call.samples.len());
         Track { settings, samples, key: 0, confidence: 0.0, centres: vec![], values: vec![] }
+    }
+
+    pub fn length(&self) -> Length {
+        Length { rate: self.call.settings.rate, samples: self.call.samples.len() as u64 }
     }
 
     fn lacks_room(&self) -> bool {

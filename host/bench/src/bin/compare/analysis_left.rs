@@ -5,14 +5,15 @@ use crate::card_rounds::{self, Round};
 use crate::groups::Compared;
 use ulyptesh::calls::{AnalyseResult, Buffers, EstimateRows, FrameRows, NO_KEY, SegmentRows, analyse};
 
-/// What the call answers, what it leaves in all that it was lent to write, whether all else stayed, and its card,
-/// written and read, where the call is not refused.
+/// What the call answers, what it leaves in all that it was lent to write, whether all else stayed, its card, written
+/// and read, where the call is not refused, and whether no end on it lies after the audio.
 #[derive(Debug)]
 pub struct Left {
     pub answer: AnalyseResult,
     lent: Buffers,
     stayed: bool,
     card: Option<Round>,
+    pub inside: bool,
 }
 
 /// What a card is written from.
@@ -33,15 +34,20 @@ fn told(answer: &AnalyseResult, segments: &SegmentRows) -> Told {
 }
 
 impl Left {
-    /// Whose answer it is makes the card's round.
-    fn new(answer: AnalyseResult, lent: Buffers, stayed: bool, round: fn(&Told) -> Round) -> Self {
+    /// All that has to stay stays and has to lie inside does; whose answer it is makes the card's round.
+    fn new(answer: AnalyseResult, lent: Buffers, round: fn(&Told) -> Round) -> Self {
         let card = (answer.refusal == 0).then(|| round(&told(&answer, &lent.segments)));
-        Self { answer, lent, stayed, card }
+        Self { answer, lent, stayed: true, card, inside: true }
     }
 
     /// What a call has to leave, by the oracle or the request's words.
     pub fn wanted(answer: AnalyseResult, lent: Buffers) -> Self {
-        Self::new(answer, lent, true, card_rounds::theirs)
+        Self::new(answer, lent, card_rounds::theirs)
+    }
+
+    /// The ends that are read on its card, in milliseconds.
+    pub fn ends(&self) -> &[u32] {
+        self.card.as_ref().map_or(&[], card_rounds::ends)
     }
 }
 
@@ -71,14 +77,16 @@ impl Compared for Left {
             && one.estimates.same(&another.estimates)
             && one.segments.same(&another.segments)
             && self.card.same(&other.card)
+            && self.inside == other.inside
     }
 
     fn shown(&self) -> String {
         let Buffers { frames, work, estimates, segments } = &self.lent;
         let lists = [frames.energies.shown(), work.shown(), estimates.middles.shown(), segments.ends.shown()];
         let stayed = if self.stayed { "" } else { ", samples or sheet changed" };
+        let inside = if self.inside { "" } else { ", an end after the audio" };
         let (answer, lists, card) = (self.answer.shown(), lists.join("; "), self.card.shown());
-        format!("{answer}{stayed}; energies, work, middles, ends: {lists}; card: {card}")
+        format!("{answer}{stayed}; energies, work, middles, ends: {lists}; card: {card}{inside}")
     }
 }
 
@@ -120,7 +128,9 @@ pub fn untouched(asked: &Asked) -> Buffers {
 pub fn ours(asked: &Asked) -> Left {
     let (before, mut lent) = (asked.imprint(), untouched(asked));
     let answer = analyse(asked.call.settings, &asked.call.sheet, &asked.call.samples, &mut lent);
-    Left::new(answer, lent, asked.imprint() == before, card_rounds::ours)
+    let left = Left::new(answer, lent, card_rounds::ours);
+    let inside = left.ends().iter().all(|&end| asked.length().reaches(end.into()));
+    Left { stayed: asked.imprint() == before, inside, ..left }
 }
 
 /// An answer without a key: a refusal, or the empty analysis.

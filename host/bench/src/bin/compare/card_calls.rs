@@ -190,6 +190,11 @@ impl Read {
         Self { answer: answer(said), rows, bytes: card }
     }
 
+    /// The segments' ends.
+    pub fn ends(&self) -> &[u32] {
+        &self.rows.ends[..self.answer.segments as usize]
+    }
+
     /// The call that writes what was read, into so many bytes.
     pub fn to_write(&self, lent: usize) -> Writing {
         let CardRead { key, dsp_key, alternate, coverage, confidence, segments, .. } = self.answer;

@@ -8,6 +8,11 @@ use ulyptesh::calls::write_card;
 /// What writing leaves, and where there is a card what reading it and writing it again leave.
 pub type Round = (Left, Option<(Read, Left)>);
 
+/// The ends that were read, in milliseconds; none where there is no card.
+pub fn ends(round: &Round) -> &[u32] {
+    round.1.as_ref().map_or(&[], |(read, _)| read.ends())
+}
+
 /// By the library's calls.
 pub fn ours(told: &Told) -> Round {
     let count = told.ends.len();

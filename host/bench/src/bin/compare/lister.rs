@@ -35,6 +35,12 @@ fn printed(ended: &Output) -> String {
     if ended.status.success() && ended.stderr.is_empty() { text(&ended.stdout) } else { format!("{ended:?}") }
 }
 
+/// What the program prints of bytes; none where it was not built.
+pub fn listed_by_program() -> Option<impl Fn(&[u8]) -> String> {
+    let program = program()?;
+    Some(move |bytes: &[u8]| printed(&output_on(command(&program), [bytes])))
+}
+
 /// Cards of any number of segments, the largest, rows o and p, and each rule broken.
 pub fn cards(seed: u64) -> impl Iterator<Item = Vec<u8>> {
     let counts = (0..40).chain([100, 500, 1_022, 1_023]);
@@ -75,10 +81,9 @@ fn on_a_folder(program: &Path) -> String {
 }
 
 pub fn compare(groups: &mut Groups) {
-    let Some(program) = program() else {
+    let Some((program, on)) = program().zip(listed_by_program()) else {
         return println!("lister: left out, as the program is not there");
     };
-    let on = |bytes: &[u8]| printed(&output_on(command(&program), [bytes]));
     let by_byte = |bytes: Vec<u8>| printed(&output_on(command(&program), bytes.chunks(1)));
     let by_part = |bytes: Vec<u8>| printed(&output_on(command(&program), bytes.chunks(700)));
     let rows = [(ROW_O.to_vec(), "A minor\n0 180000 A minor\n"), (ROW_P.to_vec(), "no key\n")];

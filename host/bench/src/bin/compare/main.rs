@@ -61,6 +61,7 @@ mod sheets;
 mod short_tracks;
 #[cfg(oracle)]
 mod shortening;
+mod stored_cards;
 #[cfg(oracle)]
 mod their_analyses;
 mod tool_cards;
@@ -77,6 +78,7 @@ mod tool_runs;
 mod tool_tracks;
 #[cfg(oracle)]
 mod track_edges;
+mod track_ends;
 #[cfg(oracle)]
 mod whole_tracks;
 mod windows;
@@ -117,7 +119,7 @@ macro_rules! beside_oracle {
     };
 }
 
-const TOPICS: [Topic; 34] = [
+const TOPICS: [Topic; 36] = [
     alone!(numbers),
     alone!(orders),
     alone!(key_names),
@@ -130,6 +132,8 @@ const TOPICS: [Topic; 34] = [
     alone!(card_reads),
     alone!(packed_cards),
     alone!(lister),
+    alone!(stored_cards),
+    alone!(track_ends),
     alone!(sheets),
     beside_oracle!(filters),
     alone!(refusals),
