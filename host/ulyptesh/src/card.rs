@@ -188,7 +188,9 @@ impl Card {
         &self.segments
     }
 
-    /// Where the last segment ends, in milliseconds; 0 without one.
+    /// Where the last segment ends, in milliseconds; 0 without one. On the card of an analysis that is the duration,
+    /// rounded down: it does not lie after the audio. On a card from before they were rounded down, it may by up to
+    /// half a millisecond.
     pub fn duration_ms(&self) -> u32 {
         self.segments.last().map_or(0, |last| last.end_ms)
     }
@@ -215,7 +217,7 @@ impl fmt::Display for Card {
     }
 }
 
-/// What a deck reads on the card of an analysis.
+/// What a deck reads on the card of an analysis: times in milliseconds and all parts in thousandths, rounded down.
 impl TryFrom<&Analysis> for Card {
     type Error = CardError;
 
@@ -239,8 +241,12 @@ mod tests {
         (f64::from(part) * 1_000.0).floor() as u16
     }
 
+    /// Rounded down; where the product was rounded up to a whole number, what `mul_add` leaves of it is below 0.
     fn milliseconds(seconds: &[f64]) -> Vec<u32> {
-        column(seconds, |seconds| (seconds * 1_000.0).round() as u32)
+        column(seconds, |&seconds| {
+            let whole = (seconds * 1_000.0).floor();
+            whole as u32 - u32::from(seconds.mul_add(1_000.0, -whole) < 0.0)
+        })
     }
 
     fn card_of(told: &Told) -> Card {

@@ -71,7 +71,8 @@ impl Analysis {
         }
     }
 
-    /// The bytes of the key card, as a deck reads it; [`Card`](crate::Card) tells what it reads.
+    /// The bytes of the key card, as a deck reads it; [`Card`](crate::Card) tells what it reads. Times are written in
+    /// milliseconds, rounded down, so that no end lies after the audio.
     pub fn card(&self) -> Result<Vec<u8>, CardError> {
         let each = &self.segments;
         card(&CardFields {

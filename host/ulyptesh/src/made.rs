@@ -43,8 +43,9 @@ impl Random {
 /// Without segments there is no key, and one in two keys has an alternate.
 pub fn told(random: &mut Random, count: usize) -> Told {
     let mut end = 0.0;
+    // two milliseconds at least, so that no two ends are in one
     let mut later = |_| {
-        end += (1 + random.below(60_000)) as f64 / 1_000.0;
+        end += (2_000 + random.below(60_000_000)) as f64 / 1_000_000.0;
         end
     };
     let ends: Vec<f64> = (0..count).map(&mut later).collect();

@@ -31,7 +31,8 @@ ulyptesh analyse FILE.. --rate N [OPTION..]
   --json-lines    an object a line for each track
   --key-only      the key alone, a line for each track; of several with a tab and the file's name
   --notation WORD keys as sharps (C# minor), flats (Db minor), camelot (12A) or open-key (5m)
-  --card OUT      also writes the key card, for one file; - is standard output, in place of the text
+  --card OUT      also writes the key card, for one file; - is standard output, in place of the text.
+                  Its times are milliseconds, rounded down: none lies after the audio
   --svg OUT       also draws the segments and the chroma over time, likewise
   --cards DIR     also writes the key card of each track into a folder that is there, as NAME.card
   --svgs DIR      also draws each track into a folder, as NAME.svg
