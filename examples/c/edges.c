@@ -321,6 +321,44 @@ static int card_sizes(void)
     return done;
 }
 
+/* The card of one segment up to so many seconds, and what is read of it. */
+static UlypteshWritten card_up_to(double seconds, CardRows *rows)
+{
+    static const double STARTS[] = {0.0};
+    static const uint8_t KEYS[] = {21};
+    static const float CONFIDENCES[] = {0.5f};
+    uint8_t bytes[sizeof ONE] = {0};
+    UlypteshCardRead told;
+    UlypteshWritten written = ulyptesh_write_card(21, 21, ULYPTESH_NO_KEY, 0.0f, 0.5f, STARTS, 1, &seconds, 1, KEYS, 1,
+                                                  CONFIDENCES, 1, bytes, sizeof bytes);
+    ulyptesh_read_card(&told, bytes, written.length, rows->starts, 2, rows->ends, 2, rows->keys, 2, rows->confidences,
+                       2);
+    return written;
+}
+
+/* Whether the card of so many seconds ends at so many milliseconds. */
+static int ends_at(double seconds, uint32_t milliseconds)
+{
+    CardRows rows = NINES;
+    return HOLDS(card_up_to(seconds, &rows).refusal == ULYPTESH_DONE) && HOLDS(rows.ends[0] == milliseconds);
+}
+
+/* Whether there is no card of so many seconds. */
+static int has_no_card(double seconds)
+{
+    CardRows rows = NINES;
+    return HOLDS(card_up_to(seconds, &rows).refusal == ULYPTESH_UNWRITABLE);
+}
+
+/* A second less one sample, whole milliseconds, the zeros, the longest track; below 0, and behind that one's end. */
+static int ends_rounded_down(void)
+{
+    return ends_at(7999.0 / 8000.0, 999) && ends_at(44099.0 / 44100.0, 999) && ends_at(191999.0 / 192000.0, 999)
+        && ends_at(180.0, 180000) && ends_at(0.5, 500) && ends_at(0.0, 0) && ends_at(-0.0, 0)
+        && ends_at(14400.0, 14400000) && ends_at(14400.0009, 14400000) && has_no_card(14400.0011)
+        && has_no_card(-0.0001) && has_no_card(-nextafter(0.0, 1.0)) && has_no_card(NAN);
+}
+
 /* Cards read and written from packed numbers, whichever way floats are rounded, with no sign of a float worked out. */
 static int cards_rounded(void)
 {
@@ -449,6 +487,7 @@ static const struct {
     {"cards-refused", cards_refused},
     {"cards-written", cards_written},
     {"card-sizes", card_sizes},
+    {"ends-rounded-down", ends_rounded_down},
     {"cards-rounded", cards_rounded},
     {"settings-refused", settings_refused},
     {"tracks-in-turn", tracks_in_turn},
