@@ -34,7 +34,7 @@ fn told(answer: &AnalyseResult, segments: &SegmentRows) -> Told {
 }
 
 impl Left {
-    /// All that has to stay stays and has to lie inside does; whose answer it is makes the card's round.
+    /// With all else as it was and no end after the audio; whose answer it is makes the card's round.
     fn new(answer: AnalyseResult, lent: Buffers, round: fn(&Told) -> Round) -> Self {
         let card = (answer.refusal == 0).then(|| round(&told(&answer, &lent.segments)));
         Self { answer, lent, stayed: true, card, inside: true }
