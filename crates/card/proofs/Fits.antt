@@ -14,7 +14,7 @@ use Rattle.card.specs.Rules.{headerTests, headerBroken, segmentTests, se
 use Rattle.card.specs.declared.layout.Layout.{Layout}
 use Rattle.card.specs.declared.layout.Header.{Header}
 use Rattle.card.specs.declared.layout.Segment.{Segment}
-use Rattle.card.proofs.Kept.{header-good, segment-good}
+use Rattle.card.proofs.Unbroken.{header-good, segment-good}
 
 header-fits : (l : Layout) (h : Header) (count : ℕ) → LayoutFits l → headerBroken l h count ≡ false → HeaderFits l h count
 unfolding headerBroken

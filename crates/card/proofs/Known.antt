@@ -15,7 +15,7 @@ pub record Sound (l : Layout) : Type 0 where
 
 pub layout1-sound : Sound layout1
 layout1-sound = record {
-  fits = record { number = omega arith; count = omega arith; end = omega arith; most = omega arith; last = omega arith; seconds = omega arith };
+  fits = record { number = omega arith; count = omega arith; end = omega arith; most = omega arith; last = omega arith; packable = omega arith };
   narrow = omega arith;
   long = omega arith;
 }

@@ -1,5 +1,5 @@
 -- What the rules and the layouts give.
-pub mod Kept
+pub mod Unbroken
 pub mod Fits
 pub mod Judged
 pub mod Known

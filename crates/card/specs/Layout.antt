@@ -53,7 +53,7 @@ pub record LayoutFits (l : Layout) : Type 0 where
   pub end : l .end ≤ 41
   pub most : l .most < 2 ^ l .count
   pub last : l .last < 2 ^ l .end
-  pub seconds : l .last < 2 ^ 31
+  pub packable : l .last < 2 ^ 32
 
 -- a header's numbers fit their widths
 pub record HeaderFits (l : Layout) (h : Header) (segments : ℕ) : Type 0 where

@@ -1,12 +1,11 @@
 -- A card with an end has a key, so its segments tile the track, and each end is a time up to the duration.
 use mathlib.Core.Path.{_≡_, refl, ap, subst, _∙_}
 use mathlib.Core.Bool.{false}
-use mathlib.Core.List.{List, [], _∷_}
-use Prim.Native.Nat.{ℕ, zero, suc, _+_, _≤_, _<_}
-use native.Mathlib.Nat.{not-suc-le-zero, le-of-suc-le-suc}
+use Prim.Native.Nat.{ℕ, _+_, _≤_, _<_}
 use native.Mathlib.Omega.{arith}
 use lib.Dec.{T, lit<}
-use lib.ListN.{length, getD, take, length-take}
+use lib.ListN.{length, getD, length-take}
+use lib.Seq.{getD-take}
 use lib.Ieee.{Float, nan, le}
 use Rattle.laws.specs.Table.{anyOf}
 use Rattle.laws.proofs.Front.{length-list, getD-list}
@@ -27,14 +26,18 @@ use Rattle.analysis.specs.Demand.{durationOf, segmentsLeft}
 use Rattle.analysis.proofs.Demand.{analysis-keeps}
 use Rattle.packed.specs.Packing.{numberOr, millisecondsOf}
 use Rattle.packed.specs.declared.Packed.{Packed}
-use Rattle.packed.specs.declared.Packed.the-variants.{Number, Refused}
+use Rattle.packed.specs.declared.Packed.the-variants.{Number, Refused as Unpacked}
+use Rattle.card.specs.Layout.{layout1}
 use Rattle.card.specs.Rules.{cardSegment, cardBroken}
 use Rattle.card.specs.declared.layout.Layout.{Layout}
-use Rattle.card.proofs.Kept.{has-key, end-limited}
-use Rattle.card_judge.specs.Analysed.{Analysis, packedEnd, packedAt, meaningOf}
+use Rattle.card.proofs.Unbroken.{has-key, end-limited}
+use Rattle.card_judge.specs.Analysed.{packedEnd, packedAt, meaningOf}
 use Rattle.card_judge.proofs.Analyses.{writable}
+use Rattle.card_call.specs.Cards.{cardOf}
+use Rattle.card_reader.specs.Reading.{says, readOf}
+use Rattle.card_inverse.proofs.Calls.{analysed-is-read}
 use Rattle.card_ends.specs.Times.{Lasting}
-use Rattle.card_ends.specs.Ends.{cardOfOutcome, EndsInside}
+use Rattle.card_ends.specs.Ends.{cardOfOutcome, AllInside, EndsInside, ReadInside}
 use Rattle.card_ends.proofs.Times.{times-inside}
 
 -- ---- a key is reported of a track as the checks leave it
@@ -47,7 +50,7 @@ lasting c lent = go (tableOf c lent) refl
     go Empty e h = absurd (omega (arith, h))
     go (Go positions) e h =
         let p = passed c (hasty (c .settings)) (anyOf (tooSmall (c .settings) (length (c .samples)) lent)) positions e in
-        record { rated = p .worthwhile .rated; slow = p .slow; short = p .short; moderate = lit< tt }
+        record { rated = p .worthwhile .rated; slow = p .slow; short = p .short }
 
 -- ---- a number that is not the one above the limit was packed
 packed-number : (l : Layout) (x : Float) → packedEnd l x ≤ l .last → millisecondsOf x (l .last) ≡ Number (packedEnd l x)
@@ -55,21 +58,11 @@ packed-number l x = go (millisecondsOf x (l .last)) refl
   where
     go : (p : Packed) → millisecondsOf x (l .last) ≡ p → numberOr (l .last + 1) p ≤ l .last → p ≡ Number (numberOr (l .last + 1) p)
     go (Number n) e h = refl
-    go Refused e h = absurd (omega (arith, h))
-
--- ---- an entry of the first entries
-getD-take : {A : Type 0} (n : ℕ) (xs : List A) (i : ℕ) (d : A) → i < length (take n xs) → getD (take n xs) i d ≡ getD xs i d
-getD-take zero xs i d h = absurd (not-suc-le-zero h)
-getD-take (suc n) [] i d h = absurd (not-suc-le-zero h)
-getD-take (suc n) (x ∷ xs) zero d h = refl
-getD-take (suc n) (x ∷ xs) (suc i) d h = getD-take n xs i d (le-of-suc-le-suc h)
+    go Unpacked e h = absurd (omega (arith, h))
 
 module _ (c : Call) (lent : Lent) (typed : Typed (c .settings)) where
   abbrev o : AnalyseOutcome
   o = analysed c lent
-
-  abbrev a : Analysis
-  a = cardOfOutcome o
 
   abbrev endAt : ℕ → Float
   endAt i = getD (o .lent .segments .ends) i nan
@@ -94,18 +87,25 @@ module _ (c : Call) (lent : Lent) (typed : Typed (c .settings)) where
     within i h = subst (λ (x : Float). T (le x (durationOf c))) (end-is i h) (tiles-within (durationOf c) (segmentsLeft o) tiles i (counted i h))
 
 pub ends-inside : EndsInside
-ends-inside c lent typed l w i h =
+ends-inside c lent typed l w i on =
     let o = analysed c lent in
     let a = cardOfOutcome o in
     let m = meaningOf l a in
     let good : cardBroken l m ≡ false = writable l a w .good in
-    let on : i < length (m .segments) = rw (length-list (packedAt l (a .ends) (a .keys) (a .confidences)) (length (a .ends))) h in
+    let h : i < length (a .ends) = rw (length-list (packedAt l (a .ends) (a .keys) (a .confidences)) (length (a .ends))) at on in
     let keyed = has-key l m good (omega (arith, on)) in
     let place : i < o .answer .segments = omega (arith, h, length-take (o .answer .segments) (o .lent .segments .ends)) in
     let x = endAt c lent typed i in
     let end : cardSegment (m .segments) i .end ≡ packedEnd l x =
-    ap (λ s. s .end) (getD-list (packedAt l (a .ends) (a .keys) (a .confidences)) (length (a .ends)) i _ h) ∙ ap (packedEnd l) (getD-take (o .answer .segments) (o .lent .segments .ends) i nan h) in
+    ap (λ s. s .end) (getD-list (packedAt l (a .ends) (a .keys) (a .confidences)) (length (a .ends)) i _ h) ∙ ap (packedEnd l) (getD-take (o .answer .segments) (o .lent .segments .ends) i nan place) in
     let low : packedEnd l x ≤ l .last = rw end at (end-limited l m good i on) in
     rw end
-    (times-inside longestTrack (c .settings) (length (c .samples)) (lasting c lent keyed) x (time c lent typed keyed i place) (within c lent typed keyed i place) (l .last) (packedEnd l x)
+    (times-inside longestTrack (lit< tt) (c .settings) (length (c .samples)) (lasting c lent keyed) x (time c lent typed keyed i place) (within c lent typed keyed i place) (l .last) (packedEnd l x)
     (packed-number l x low))
+
+pub read-inside : ReadInside
+read-inside c lent typed w rows room m read =
+    let a = cardOfOutcome (analysed c lent) in
+    let wanted : readOf (cardOf a) rows ≡ says (meaningOf layout1 a) = analysed-is-read a w rows room in
+    let same : meaningOf layout1 a ≡ m = cc (read, wanted) in
+    subst (AllInside c) same (ends-inside c lent typed layout1 w)

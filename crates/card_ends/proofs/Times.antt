@@ -27,7 +27,7 @@ under-step n a p b q k t some more reached under is =
     let third : b * t * (1000 * p) ≡ k * q * (1000 * p) = ap (λ (z : ℕ). z * (1000 * p)) is in
     le-of-mul-le-mul-right (omega (arith, first, second, third)) (mul-pos some more)
 
-module _ (seconds : ℕ) (s : Settings) (samples : ℕ) (t : Lasting seconds s samples) where
+module _ (seconds : ℕ) (moderate : seconds < 2 ^ 25) (s : Settings) (samples : ℕ) (t : Lasting seconds s samples) where
   -- whole steps before the end of the track
   abbrev steps : ℕ
   steps = samples * 2 ^ 28 / s .rate
@@ -36,11 +36,11 @@ module _ (seconds : ℕ) (s : Settings) (samples : ℕ) (t : Lasting seconds s s
   few =
       let all : samples * 2 ^ 28 ≤ seconds * s .rate * 2 ^ 28 = mul-le-mul-right (2 ^ 28) (t .short) in
       let fewer : steps < seconds * 2 ^ 28 + 1 = div-lt-iff-lt-mul (t .rated) .1 (omega (arith, all, t .rated)) in
-      omega (arith, fewer, t .moderate)
+      omega (arith, fewer, moderate)
 
   rounds : Rounds binary64 (secondsAt s samples) samples (s .rate)
   rounds =
-      let most : seconds * s .rate ≤ 2 ^ 25 * 192_000 = mul-le-mul (le-of-lt (t .moderate)) (t .slow) in
+      let most : seconds * s .rate ≤ 2 ^ 25 * 192_000 = mul-le-mul (le-of-lt moderate) (t .slow) in
       seconds-round s samples (omega (arith, most, t .short)) (t .rated) (omega (arith, t .slow))
 
   -- the step above it
@@ -63,7 +63,7 @@ module _ (seconds : ℕ) (s : Settings) (samples : ℕ) (t : Lasting seconds s s
       let exact = parts-held binary64 28 fine (steps + 1) few in
       let under = le→cross x above (held .at-least-zero) (exact .at-least-zero) (order-trans x (secondsAt s samples) above below duration-under) in
       inside-step n
-      (under-step n (num x) (den x) (num above) (den above) (steps + 1) (2 ^ 28) (den-pos x) (den-pos above) (packed-round-down .milliseconds x limit n e .reached) under (parts-cross binary64 28 fine (steps + 1) few))
+      (under-step n (num x) (den x) (num above) (den above) (steps + 1) (2 ^ 28) (den-pos x) (den-pos above) (packed-round-down .milliseconds limit .only x n e .0 .reached) under (parts-cross binary64 28 fine (steps + 1) few))
 
 pub times-inside : TimesInside
 times-inside = time-inside

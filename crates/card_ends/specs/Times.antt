@@ -13,15 +13,14 @@ use Rattle.timeline.specs.Tiling.{Time}
 abbrev pub Inside : ℕ → ℕ → ℕ → Type 0
 Inside n rate samples = n * rate ≤ 1000 * samples
 
--- a track as the checks leave it, of so many seconds at most; 2 ^ 25 seconds are more than a year
+-- a track as the checks leave it, of so many seconds at most
 pub record Lasting (seconds : ℕ) (s : Settings) (samples : ℕ) : Type 0 where
   pub rated : 0 < s .rate
   pub slow : s .rate ≤ 192_000
   pub short : samples ≤ seconds * s .rate
-  pub moderate : seconds < 2 ^ 25
 
--- whatever the limit in seconds: the milliseconds of a time up to the duration lie inside the track, though the duration is rounded to f64
+-- for every limit below 2 ^ 25 seconds, which is more than a year: the milliseconds of a time up to the duration lie inside the track, though the duration is rounded to f64
 abbrev pub TimesInside : Type 0
 TimesInside =
-    (seconds : ℕ) (s : Settings) (samples : ℕ) → Lasting seconds s samples →
+    (seconds : ℕ) → seconds < 2 ^ 25 → (s : Settings) (samples : ℕ) → Lasting seconds s samples →
     (x : Float) → Time x → T (le x (secondsAt s samples)) → (limit n : ℕ) → millisecondsOf x limit ≡ Number n → Inside n (s .rate) samples

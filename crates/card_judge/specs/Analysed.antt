@@ -31,11 +31,11 @@ abbrev pub analysis : Overall → List Float → List Float → List ℕ → Lis
 analysis overall starts ends keys confidences = record { overall = overall; starts = starts; ends = ends; keys = keys; confidences = confidences }
 
 -- ---- packed numbers: what can't be packed counts as the number above the limit, which breaks the rules
--- thousandths of a float
+-- thousandths of a float, rounded down
 abbrev pub packedPart : Float → ℕ
 packedPart x = numberOr 1001 (thousandthsOf x)
 
--- milliseconds of a float
+-- milliseconds of a float, rounded down
 abbrev pub packedEnd : Layout → Float → ℕ
 packedEnd l x = numberOr (l .last + 1) (millisecondsOf x (l .last))
 

@@ -1,4 +1,4 @@
--- The values n / 2 ^ t, as whole numbers (t = 0, Rust's `n as f64`) and halves (t = 1): below 2 ^ prec parts they are exact, and so are their sums. So a sum
+-- The values n / 2 ^ t, as whole numbers (t = 0, Rust's `n as f64`), halves (t = 1) and finer steps: below 2 ^ prec parts they are exact, and so are their sums. So a sum
 -- is bounded by its parts' bounds, from above, which shows that it does not overflow, and from below.
 use mathlib.Core.Path.{_≡_, refl, sym, ap, _∙_, subst}
 use Prim.Native.Nat.{ℕ, suc, _+_, _-_, _*_, _/_, _^_, _≤_, _<_}

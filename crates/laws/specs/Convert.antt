@@ -1,4 +1,4 @@
--- A float at another format, and whole numbers and halves as floats. Definitions and the statement.
+-- A float at another format, and whole numbers, halves and finer steps as floats. Definitions and the statement.
 use mathlib.Core.Path.{_≡_}
 use Prim.Native.Nat.{ℕ, suc, _+_, _-_, _*_, _%_, _^_, _≤_}
 use mathlib.Core.Bool.{Bool, false, Bool·beq, cond}
@@ -48,7 +48,7 @@ pub record Converts (f : Format) : Type 0 where
 abbrev pub Conversion : Type 0
 Conversion = (f : Format) → Converts f
 
--- n / 2 ^ t: whole numbers at t = 0, Rust's `n as f64`, and halves at t = 1
+-- n / 2 ^ t: whole numbers at t = 0, Rust's `n as f64`, halves at t = 1, and finer steps
 abbrev pub parts : Format → ℕ → ℕ → Float
 parts f t n = round f false n (2 ^ t)
 

@@ -1,4 +1,4 @@
--- What the functions' proofs share, on plain values.
-mod Rounding
+-- What the functions' proofs share, on plain values, and that packed numbers are rounded down.
+mod Signs
 mod Values
 pub mod Down

@@ -14,9 +14,9 @@ use lib.Ieee.Exact.{HasValue, odd-sign}
 use lib.Ieee.Fits.{down-pos}
 use lib.Ieee.Nearest.{div-same}
 use Rattle.laws.specs.Values.{plusZero}
-use Rattle.packed.specs.Packing.{numberIf, limited, wholeTimes}
+use Rattle.packed.specs.Packing.{limited, wholeTimes}
 use Rattle.packed.specs.declared.Packed.the-variants.{Number, Refused}
-use Rattle.packed.proofs.Rounding.{times-from-zero}
+use Rattle.packed.proofs.Signs.{times-from-zero}
 
 -- the fields of a float's pattern
 abbrev pub signOf : Format → Float → Bool
@@ -92,7 +92,7 @@ module _ (x : Float) (fit : T (fits binary64 x)) (plus : lt x plusZero ≡ false
       lt-of-le-of-lt (mul-le-mul {n₂ = 2 ^ 52} {m₂ = 1000} (le-trans (le-of-eq (mul-one digits)) (le-of-lt (mod-lt (toBits binary64 x) (lit< tt)))) few) (lit< tt) in
       sym
       (times-of-value x (signOf binary64 x) (digits * 1) (2 ^ 1074) n limit (lit< tt) (small-value binary64 x fit e) plus ∙ ap (limited limit) (div-eq-of-lt below)
-      ∙ ap (λ (b : Bool). numberIf b 0) (le-leb 0 limit zero-le))
+      ∙ ap (λ (b : Bool). cond b (Number 0) Refused) (le-leb 0 limit zero-le))
 
   -- what a normal double holds
   normal : (k : ℕ) → field ≡ suc k → (suc k ≡ 2047 → ⊥) → wholeTimes x n limit ≡ limited limit ((2 ^ 52 + digits) * 2 ^ k * n / 2 ^ 1074)
@@ -117,5 +117,5 @@ module _ (x : Float) (fit : T (fits binary64 x)) (plus : lt x plusZero ≡ false
             let q = (2 ^ 52 + digits) * 2 ^ k * n / 2 ^ 1074 in
             let large : 2 ^ 32 * 2 ^ 1074 ≤ (2 ^ 52 + digits) * 2 ^ k * n =
             mul-le-mul {n₁ = 2 ^ 52 * 2 ^ 1054} {m₁ = 1} (mul-le-mul {n₁ = 2 ^ 52} {m₁ = 2 ^ 1054} (omega arith) (pow-mono {i = 1054} (omega arith))) some in
-            sym (normal k e (λ all. omega arith) ∙ ap (λ (b : Bool). numberIf b q) (lt-leb q limit (lt-of-lt-of-le low (le-div-iff-mul-le (lit< tt) .1 large))))
+            sym (normal k e (λ all. omega arith) ∙ ap (λ (b : Bool). cond b (Number q) Refused) (lt-leb q limit (lt-of-lt-of-le low (le-div-iff-mul-le (lit< tt) .1 large))))
       ]

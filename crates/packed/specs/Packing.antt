@@ -1,19 +1,14 @@
 -- Thousandths and milliseconds of a float's exact value, rounded down: a finite float is m * up e / down e in size. Definitions only.
 use Prim.Native.Nat.{ℕ, _*_, _/_}
-use mathlib.Core.Bool.{Bool, true, false, _&&_, cond}
+use mathlib.Core.Bool.{Bool, _&&_, cond}
 use lib.Dec.{leb, ltb}
 use lib.Ieee.{Float, nan, inf, fin, up, down}
 use Rattle.packed.specs.declared.Packed.{Packed}
 use Rattle.packed.specs.declared.Packed.the-variants.{Number, Refused}
 
--- the number where a test holds
-abbrev pub numberIf : Bool → ℕ → Packed
-numberIf true n = Number n
-numberIf false n = Refused
-
 -- a number up to a limit
 abbrev pub limited : ℕ → ℕ → Packed
-limited limit n = numberIf (leb n limit) n
+limited limit n = cond (leb n limit) (Number n) Refused
 
 -- a packed number, or another where there is none
 abbrev pub numberOr : ℕ → Packed → ℕ

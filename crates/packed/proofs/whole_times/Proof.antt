@@ -1,18 +1,19 @@
 -- The sign, then the exponent's field of the pattern say which case the value is.
 use mathlib.Core.Path.{_≡_, sym, ap, _∙_, subst}
-use mathlib.Core.Bool.{Bool, false}
+use mathlib.Core.Bool.{Bool, false, cond}
 use Prim.Native.Nat.{ℕ, _+_, _-_, _*_, _/_, _^_, _≤_}
 use native.Mathlib.Nat.{mul-le-mul, lt-of-le-of-lt}
 use native.Mathlib.Omega.{arith}
 use lib.Dec.{T, lit<}
 use lib.Ieee.{binary64, fits, lt, ofBits}
 use borrow.Author.Tests.{le-leb, lt-leb}
-use Rattle.packed.specs.Packing.{numberIf, limited, wholeTimes}
+use Rattle.packed.specs.Packing.{limited, wholeTimes}
+use Rattle.packed.specs.declared.Packed.the-variants.{Number, Refused}
 use Rattle.laws.specs.Values.{plusZero}
 use Rattle.laws.proofs.Table.{told}
 use Rattle.laws.proofs.Signs.{not-nan}
 use borrow.Author.Needs.{needs}
-use Rattle.packed.proofs.Rounding.{times-of-nan, times-below-zero}
+use Rattle.packed.proofs.Signs.{times-of-nan, times-below-zero}
 use Rattle.packed.proofs.Values.{tiny, usual, big, fieldOf, digitsOf}
 use Rattle.packed.proofs.whole_times.Statement.{statement}
 use Rattle.packed.proofs.whole_times.Tie as tie
@@ -101,10 +102,10 @@ high-bits-requires : tie.Need-high-bits-requires
 high-bits-requires c κs = search needs
 
 returns-5 : tie.Need-returns-5
-returns-5 c = sym (found (c .before) ∙ ap (λ (b : Bool). numberIf b (c .before .high-bits .result)) (le-leb _ _ (c .if5 .taken)))
+returns-5 c = sym (found (c .before) ∙ ap (λ (b : Bool). cond b (Number (c .before .high-bits .result)) Refused) (le-leb _ _ (c .if5 .taken)))
 
 returns-6 : tie.Need-returns-6
-returns-6 c = sym (found (c .before) ∙ ap (λ (b : Bool). numberIf b (c .before .high-bits .result)) (lt-leb _ _ (c .if5 .left)))
+returns-6 c = sym (found (c .before) ∙ ap (λ (b : Bool). cond b (Number (c .before .high-bits .result)) Refused) (lt-leb _ _ (c .if5 .left)))
 
 pub whole-times-spec : {M : Type 1} → statement M
 whole-times-spec =

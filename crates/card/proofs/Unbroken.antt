@@ -1,4 +1,4 @@
--- What a card keeps that breaks no rule, test by test.
+-- A card that breaks no rule: neither header nor segment does, a segment comes with a key, and no end is above its layout's last.
 use mathlib.Core.Path.{_≡_, refl, sym, ap, _∙_}
 use mathlib.Core.Bool.{Bool, true, false}
 use mathlib.Core.List.{List}
