@@ -227,8 +227,8 @@ UlypteshWritten ulyptesh_write_key_name(
     uint8_t *bytes, size_t byte_count); /* the name's length, at most 8; the name, from the front */
 
 /* Writes the key card of an analysis; README.md, which host/install puts into share/doc/ulyptesh, has its fields and
-   rules. Ends are written in milliseconds, rounded down, so that none lies after the audio. Of the segments, lend what
-   is written: the answer's count of each slice. */
+   rules. Ends are written in milliseconds, rounded down, so that none lies after the audio; two in one millisecond, and
+   one below 0, are refused. Of the segments, lend what is written: the answer's count of each slice. */
 UlypteshWritten ulyptesh_write_card(
     uint32_t key, uint32_t dsp_key, uint32_t alternate, /* 24 for one that is missing */
     float coverage, float confidence,
@@ -239,8 +239,8 @@ UlypteshWritten ulyptesh_write_card(
     uint8_t *bytes, size_t byte_count); /* ULYPTESH_CARD_BYTES of the segments; the card, from the front */
 
 /* Reads a key card. The room for its segments is the shortest of the four slices that are written to. With 1,023 rows,
-   or with ULYPTESH_CARD_SEGMENTS of its bytes, 24 never comes. A card from before milliseconds were rounded down may
-   end up to half a millisecond after the audio. */
+   or with ULYPTESH_CARD_SEGMENTS of its bytes, 24 never comes. A card that a version before 0.2.0 wrote may end up to
+   half a millisecond after the audio. */
 UlypteshCardRead *ulyptesh_read_card(
     UlypteshCardRead *answer, /* written whole */
     const uint8_t *bytes, size_t byte_count, /* the card, exactly */

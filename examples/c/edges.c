@@ -350,13 +350,14 @@ static int has_no_card(double seconds)
     return HOLDS(card_up_to(seconds, &rows).refusal == ULYPTESH_UNWRITABLE);
 }
 
-/* A second less one sample, whole milliseconds, the zeros, the longest track; below 0, and behind that one's end. */
+/* A second less one sample, a float a hair below its millisecond, whole ones, the zeros, the longest track; refused: a
+   millisecond after that, below 0, no number. */
 static int ends_rounded_down(void)
 {
     return ends_at(7999.0 / 8000.0, 999) && ends_at(44099.0 / 44100.0, 999) && ends_at(191999.0 / 192000.0, 999)
-        && ends_at(180.0, 180000) && ends_at(0.5, 500) && ends_at(0.0, 0) && ends_at(-0.0, 0)
-        && ends_at(14400.0, 14400000) && ends_at(14400.0009, 14400000) && has_no_card(14400.0011)
-        && has_no_card(-0.0001) && has_no_card(-nextafter(0.0, 1.0)) && has_no_card(NAN);
+        && ends_at(8640480.0 / 48000.0, 180009) && ends_at(180.0, 180000) && ends_at(0.5, 500) && ends_at(0.0, 0)
+        && ends_at(-0.0, 0) && ends_at(14400.0, 14400000) && ends_at(14400.0009, 14400000)
+        && has_no_card(14400.0011) && has_no_card(-0.0001) && has_no_card(-nextafter(0.0, 1.0)) && has_no_card(NAN);
 }
 
 /* Cards read and written from packed numbers, whichever way floats are rounded, with no sign of a float worked out. */

@@ -183,19 +183,20 @@ impl Card {
         self.confidence
     }
 
-    /// In order and without gaps, from 0 to the end of the track; none without a key.
+    /// In order and without gaps, from 0 to [`Card::duration_ms`]; none without a key.
     pub fn segments(&self) -> &[CardSegment] {
         &self.segments
     }
 
     /// Where the last segment ends, in milliseconds; 0 without one. On the card of an analysis that is the duration,
-    /// rounded down: it does not lie after the audio. On a card from before they were rounded down, it may by up to
-    /// half a millisecond.
+    /// rounded down: it does not lie after the audio. On a card of a version before 0.2.0 it may, by up to half a
+    /// millisecond.
     pub fn duration_ms(&self) -> u32 {
         self.segments.last().map_or(0, |last| last.end_ms)
     }
 
     /// The key that sounds at a mix point, in milliseconds; at the very end the last segment's, none outside the track.
+    /// A track's very end is [`Card::duration_ms`], which may be a millisecond less than its seconds say.
     pub fn key_at(&self, ms: u32) -> Option<Key> {
         let around = self.segments.partition_point(|segment| segment.end_ms <= ms);
         let at_the_end = || self.segments.last().filter(|last| last.end_ms == ms);

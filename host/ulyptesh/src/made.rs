@@ -42,11 +42,12 @@ impl Random {
 
 /// Without segments there is no key, and one in two keys has an alternate.
 pub fn told(random: &mut Random, count: usize) -> Told {
-    let mut end = 0.0;
-    // two milliseconds at least, so that no two ends are in one
-    let mut later = |_| {
-        end += (2_000 + random.below(60_000_000)) as f64 / 1_000_000.0;
-        end
+    let mut end = 0;
+    // two milliseconds further at least, every other then cut to whole ones: no two ends are in one
+    let mut later = |nth: usize| {
+        end += 2_000 + random.below(60_000_000);
+        end -= if nth.is_multiple_of(2) { end % 1_000 } else { 0 };
+        end as f64 / 1_000_000.0
     };
     let ends: Vec<f64> = (0..count).map(&mut later).collect();
     let key = if count == 0 { NO_KEY } else { random.key().into() };

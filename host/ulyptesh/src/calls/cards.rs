@@ -55,7 +55,8 @@ unsafe extern "C" {
 }
 
 /// Writes a card to the front of the bytes; those behind it stay. Times become milliseconds, confidences and the
-/// coverage thousandths, all rounded down; a number below 0 has none, and its card is refused.
+/// coverage thousandths, all rounded down, so that no end lies after the audio; two ends in one millisecond, and a
+/// number below 0, are refused.
 pub fn write_card(told: &CardFields<'_>, bytes: &mut [u8]) -> Written {
     // SAFETY: each pointer and count are one slice, which outlives the call; the bytes are exclusive.
     unsafe {

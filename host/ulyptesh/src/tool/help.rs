@@ -62,7 +62,9 @@ ulyptesh card FILE.. [--json | --json-lines | --notation WORD]
   end in milliseconds and its key. Of several cards each stands under its file's name. A card that is
   refused does not keep others from being shown: 'refused' and the number, in JSON an object with it, go
   to standard output, the words to standard error. A file that can't be read is told there alone. The
-  numbers: 20 wrong length, 21 unknown layout, 22 a card rule broken or a filler bit set.
+  numbers: 20 wrong length, 21 unknown layout, 22 a card rule broken or a filler bit set. A card of a
+  version before 0.2.0 has its ends to the nearest millisecond: the last may lie after the audio, by
+  half a millisecond at most.
   FILE            a card, as analyse --card or --cards writes it; - is standard input
   --json          an array with an object for each card
   --json-lines    an object a line for each card

@@ -292,7 +292,7 @@ pub const BREACHES: [Breach; 31] = [
         },
     },
     Breach {
-        rule: "last end above 14,400 s",
+        rule: "last end a millisecond above 14,400 s",
         breaks: |told, any| {
             *told.ends.last_mut().expect("several") =
                 [14_400.001f64.next_up(), 14_400.002, 1e300, f64::INFINITY][(any % 4) as usize];

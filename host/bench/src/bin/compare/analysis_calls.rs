@@ -1,7 +1,7 @@
 //! Calls for a whole analysis, and the request's check table over them.
 use crate::frame_calls;
 use crate::groups::Compared;
-use crate::track_ends::Length;
+use crate::track_length::Length;
 use crate::windows::rows_asked;
 use bench::probe::segments::Track;
 use std::sync::Arc;

@@ -34,7 +34,7 @@ fn told(answer: &AnalyseResult, segments: &SegmentRows) -> Told {
 }
 
 impl Left {
-    /// With all else as it was and no end after the audio; whose answer it is makes the card's round.
+    /// As is wanted: all else stayed, no end after the audio; `ours` puts what it saw in their place.
     fn new(answer: AnalyseResult, lent: Buffers, round: fn(&Told) -> Round) -> Self {
         let card = (answer.refusal == 0).then(|| round(&told(&answer, &lent.segments)));
         Self { answer, lent, stayed: true, card, inside: true }
@@ -43,6 +43,11 @@ impl Left {
     /// What a call has to leave, by the oracle or the request's words.
     pub fn wanted(answer: AnalyseResult, lent: Buffers) -> Self {
         Self::new(answer, lent, card_rounds::theirs)
+    }
+
+    /// The ends of its segments, in seconds.
+    pub fn times(&self) -> &[f64] {
+        &self.lent.segments.ends[..self.answer.segments as usize]
     }
 
     /// The ends that are read on its card, in milliseconds.

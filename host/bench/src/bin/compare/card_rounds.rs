@@ -2,8 +2,7 @@
 use crate::analyses::Told;
 use crate::card_calls::{Read, Reading};
 use crate::card_model::{Meaning, length_of};
-use crate::cards::{Left, packed};
-use ulyptesh::calls::write_card;
+use crate::cards::{self, Left, packed};
 
 /// What writing leaves, and where there is a card what reading it and writing it again leave.
 pub type Round = (Left, Option<(Read, Left)>);
@@ -17,7 +16,7 @@ pub fn ends(round: &Round) -> &[u32] {
 pub fn ours(told: &Told) -> Round {
     let count = told.ends.len();
     let lent = length_of(count);
-    let written = Left::by(lent, |bytes| write_card(&told.as_lent(), bytes));
+    let written = cards::written(told, lent);
     let again = (written.answer.refusal == 0).then(|| {
         let read = Reading::new(written.card().to_vec(), count, [0; 4]).ours();
         let again = read.to_write(lent).ours();

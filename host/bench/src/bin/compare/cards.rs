@@ -66,9 +66,13 @@ pub fn packed(told: &Told) -> Option<Vec<u8>> {
     Meaning::of_analysis(told)?.card()
 }
 
-/// What the call leaves that writes the card of an analysis.
-pub fn written(told: &Told) -> Left {
-    Left::by(told.lent, |bytes| write_card(&told.as_lent(), bytes))
+/// What the call leaves that writes the card of an analysis into so many bytes.
+pub fn written(told: &Told, lent: usize) -> Left {
+    Left::by(lent, |bytes| write_card(&told.as_lent(), bytes))
+}
+
+fn ours(told: &Told) -> Left {
+    written(told, told.lent)
 }
 
 fn theirs(told: &Told) -> Left {
@@ -102,11 +106,11 @@ fn expect_none(told: &Told) {
 pub fn compare(groups: &mut Groups) {
     let seed = groups.seed;
     let (every, few) = (|nth| of_every_count(seed, nth), |nth| of_few_segments(seed, nth));
-    groups.shared_group("cards, 0 to 1,023 segments", OF_EVERY_COUNT, every, written, theirs);
-    groups.shared_group("cards, 0 to 12 segments", OF_FEW_SEGMENTS, few, written, theirs);
+    groups.shared_group("cards, 0 to 1,023 segments", OF_EVERY_COUNT, every, ours, theirs);
+    groups.shared_group("cards, 0 to 12 segments", OF_FEW_SEGMENTS, few, ours, theirs);
     for (breach, stream) in BREACHES.iter().zip(100..) {
         let told = analyses::broken(seed, stream, BROKEN, breach).inspect(expect_none);
         let name = format!("cards, {}", breach.rule);
-        groups.group(&name, told, |told| written(&told), |told| theirs(&told));
+        groups.group(&name, told, |told| ours(&told), |told| theirs(&told));
     }
 }

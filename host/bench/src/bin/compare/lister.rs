@@ -5,6 +5,7 @@ use crate::card_reads::{ROW_O, ROW_P, largest};
 use crate::groups::Groups;
 use crate::tool_runs::{Folder, output_on, output_on_endless, programs, text};
 use std::env::consts::ARCH;
+use std::env::vars_os;
 use std::path::{Path, PathBuf};
 use std::process::{Command, Output};
 use ulyptesh::calls::LONGEST_CARD;
@@ -13,12 +14,13 @@ use ulyptesh::calls::LONGEST_CARD;
 const STREAM: u64 = 290_000;
 
 /// The program, where it was built.
-fn program() -> Option<PathBuf> {
+pub fn program() -> Option<PathBuf> {
     let place = programs().join("../../bin/lister");
     place.exists().then_some(place)
 }
 
-/// The program, not yet run. It is compiled for x86-64; elsewhere the toolchain's emulator runs it.
+/// The program, not yet run. It is compiled for x86-64; elsewhere the toolchain's emulator runs it, without what the
+/// environment says to emulators.
 fn command(program: &Path) -> Command {
     if ARCH == "x86_64" {
         return Command::new(program);
@@ -27,18 +29,21 @@ fn command(program: &Path) -> Command {
     let mut command = Command::new(toolchain.join("bin/qemu-x86_64"));
     command.arg(toolchain.join("lib/ld-linux-x86-64.so.2"));
     command.arg("--library-path").args([&toolchain.join("lib"), program]);
+    let names = vars_os().map(|(name, _)| name);
+    for name in names.filter(|name| name.as_encoded_bytes().starts_with(b"QEMU_")) {
+        command.env_remove(name);
+    }
     command
 }
 
-/// What is printed; where the program does not end with 0 or complains, how.
-fn printed(ended: &Output) -> String {
+/// What a program prints; where it does not end with 0 or complains, how.
+pub fn printed(ended: &Output) -> String {
     if ended.status.success() && ended.stderr.is_empty() { text(&ended.stdout) } else { format!("{ended:?}") }
 }
 
-/// What the program prints of bytes; none where it was not built.
-pub fn listed_by_program() -> Option<impl Fn(&[u8]) -> String> {
-    let program = program()?;
-    Some(move |bytes: &[u8]| printed(&output_on(command(&program), [bytes])))
+/// What the program prints of bytes.
+pub fn listed(program: &Path, bytes: &[u8]) -> String {
+    printed(&output_on(command(program), [bytes]))
 }
 
 /// Cards of any number of segments, the largest, rows o and p, and each rule broken.
@@ -81,20 +86,21 @@ fn on_a_folder(program: &Path) -> String {
 }
 
 pub fn compare(groups: &mut Groups) {
-    let Some((program, on)) = program().zip(listed_by_program()) else {
+    let Some(program) = program() else {
         return println!("lister: left out, as the program is not there");
     };
+    let on = |bytes: Vec<u8>| listed(&program, &bytes);
     let by_byte = |bytes: Vec<u8>| printed(&output_on(command(&program), bytes.chunks(1)));
     let by_part = |bytes: Vec<u8>| printed(&output_on(command(&program), bytes.chunks(700)));
     let rows = [(ROW_O.to_vec(), "A minor\n0 180000 A minor\n"), (ROW_P.to_vec(), "no key\n")];
     let nth_row = |nth: usize| rows[nth].1.to_string();
-    groups.group("the lister on rows o and p", 0..rows.len(), |nth| on(&rows[nth].0), nth_row);
+    groups.group("the lister on rows o and p", 0..rows.len(), |nth| listed(&program, &rows[nth].0), nth_row);
     let seed = groups.seed;
-    let listed = |bytes: Vec<u8>| listing(&bytes);
-    groups.group("the lister on cards", cards(seed), |bytes| on(&bytes), listed);
-    groups.group("the lister on no cards", no_cards(), |bytes| on(&bytes), listed);
-    groups.group("the lister, byte by byte", rows.iter().map(|row| row.0.clone()), by_byte, listed);
-    groups.group("the lister, part by part", [largest().joined()].into_iter(), by_part, listed);
+    let wanted = |bytes: Vec<u8>| listing(&bytes);
+    groups.group("the lister on cards", cards(seed), on, wanted);
+    groups.group("the lister on no cards", no_cards(), on, wanted);
+    groups.group("the lister, byte by byte", rows.iter().map(|row| row.0.clone()), by_byte, wanted);
+    groups.group("the lister, part by part", [largest().joined()].into_iter(), by_part, wanted);
     let on_endless =
         |front: Vec<u8>| output_on_endless(command(&program), &front).map(|ended| printed(&ended));
     let stops = |front: Vec<u8>| Some(endless_listing(&front));

@@ -79,6 +79,7 @@ mod tool_tracks;
 #[cfg(oracle)]
 mod track_edges;
 mod track_ends;
+mod track_length;
 #[cfg(oracle)]
 mod whole_tracks;
 mod windows;

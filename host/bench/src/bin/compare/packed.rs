@@ -51,14 +51,7 @@ pub fn exact_milliseconds(x: f64) -> u64 {
     whole_thousandths(x, 1000 * LONGEST)
 }
 
-/// Whether a track's time in seconds is below so many milliseconds, exactly.
-pub fn is_before(x: f64, milliseconds: u64) -> bool {
-    let (digits, places) = fraction(x).expect("a time below 2^53");
-    // where there are more places, the time is below a quarter of a millisecond
-    milliseconds > 0 && (places > 64 || digits * 1000 < u128::from(milliseconds) << places)
-}
-
-/// The milliseconds that a card had of a track's time before they were rounded down: the nearest, halves up.
+/// The milliseconds of a track's time on a card of a version before 0.2.0: the nearest, halves up.
 pub fn nearest_milliseconds(x: f64) -> u64 {
     let (digits, places) = fraction(x).expect("a time below 2^53");
     halved(digits * 2000, places).div_ceil(2) as u64

@@ -1,13 +1,13 @@
-//! Cards that were written while milliseconds were the nearest, replayed: they read, list and are written again as then;
-//! their analyses, written today, have the same cards but for ends that the nearest millisecond had put too late.
+//! Cards of a version before 0.2.0, whose milliseconds are the nearest, replayed: they read, list and are written again
+//! as then; their analyses, written today, have the same cards but for ends that the nearest had put too late.
 use crate::analyses::Told;
 use crate::card_calls::{Read, Reading};
 use crate::card_model::{Meaning, Segment};
 use crate::cards::{Left, written};
-use crate::groups::Groups;
-use crate::lister::listed_by_program;
-use crate::packed::is_before;
-use crate::tool_runs::{Folder, output_on, text};
+use crate::groups::{Compared, Groups};
+use crate::lister::{listed, printed, program};
+use crate::packed::exact_milliseconds;
+use crate::tool_runs::{Folder, output_on};
 use std::fmt::Debug;
 use std::iter::once;
 use std::str::FromStr;
@@ -15,19 +15,31 @@ use std::str::FromStr;
 /// Paragraphs: what they are, then one for each card.
 const CARDS: &str = include_str!("../../../data/cards_to_nearest.txt");
 
-/// An analysis, its card, what was read of that, and what the lister printed.
+/// A name, an analysis, its card, what was read of that, and what the lister printed.
 struct Stored {
+    name: &'static str,
     told: Told,
     bytes: Vec<u8>,
     said: Meaning,
     printed: String,
 }
 
+/// By their names, which differ.
+impl Compared for &Stored {
+    fn same(&self, other: &Self) -> bool {
+        self.name == other.name
+    }
+
+    fn shown(&self) -> String {
+        self.name.into()
+    }
+}
+
 fn number<A: FromStr<Err: Debug>>(word: &str) -> A {
     word.parse().expect("a number")
 }
 
-/// The words of each line, as many as a line of its kind has.
+/// The words of a line, as many as its kind has.
 fn words<const N: usize>(line: &str) -> [&str; N] {
     let words: Vec<&str> = line.split(' ').collect();
     words.try_into().expect("as many words as the line's kind has")
@@ -39,7 +51,7 @@ fn lines(part: &str) -> (&str, Vec<[&str; 3]>) {
     (first, segments.lines().map(words).collect())
 }
 
-fn told(part: &str, lent: usize) -> Told {
+fn told(part: &str) -> Told {
     let (first, segments) = lines(part);
     let [key, dsp_key, alternate, coverage, confidence] = words(first);
     let ends: Vec<f64> = segments.iter().map(|words| number(words[0])).collect();
@@ -53,7 +65,7 @@ fn told(part: &str, lent: usize) -> Told {
         ends,
         keys: segments.iter().map(|words| number(words[1])).collect(),
         confidences: segments.iter().map(|words| number(words[2])).collect(),
-        lent,
+        lent: 0,
     }
 }
 
@@ -80,15 +92,14 @@ fn bytes(hex: &str) -> Vec<u8> {
 }
 
 impl Stored {
-    fn new(card: &str) -> Self {
-        let parts = |text: &'static str, of| str::split_once(of, text).expect("a card has all its parts");
-        let (_, card) = parts("\ntold ", card);
-        let (analysis, card) = parts("\nbytes ", card);
-        let (hex, card) = parts("\nread ", card);
-        let (read, printed) = parts("\nprinted\n", card);
-        let bytes = bytes(hex);
-        let told = told(analysis, bytes.len());
-        Self { told, bytes, said: said(read), printed: format!("{}\n", printed.trim_end()) }
+    fn new(card: &'static str) -> Self {
+        let cut = |at: &str, text: &'static str| text.split_once(at).expect("a card has all its parts");
+        let (name, rest) = cut("\ntold ", card);
+        let (analysis, rest) = cut("\nbytes ", rest);
+        let (hex, rest) = cut("\nread ", rest);
+        let (read, printed) = cut("\nprinted\n", rest);
+        let printed = format!("{}\n", printed.trim_end());
+        Self { name, told: told(analysis), bytes: bytes(hex), said: said(read), printed }
     }
 
     fn read(&self) -> Read {
@@ -98,7 +109,7 @@ impl Stored {
     /// What is said today of the analysis: an end is a millisecond less where it was after the time.
     fn said_today(&self) -> Meaning {
         let today = |(segment, &end): (&Segment, &f64)| Segment {
-            end: segment.end - u64::from(is_before(end, segment.end)),
+            end: segment.end - u64::from(exact_milliseconds(end) < segment.end),
             ..*segment
         };
         let segments = self.said.segments.iter().zip(&self.told.ends).map(today).collect();
@@ -111,32 +122,31 @@ fn stored() -> Vec<Stored> {
 }
 
 fn compare_read(groups: &mut Groups, cards: &[Stored]) {
-    let (all, card) = (0..cards.len(), |nth: usize| &cards[nth]);
-    let wanted = |nth| Read::wanted(&card(nth).said, card(nth).bytes.clone());
-    groups.group("stored cards read", all.clone(), |nth| card(nth).read(), wanted);
-    let again = |nth| card(nth).read().to_write(card(nth).bytes.len()).ours();
-    let same = |nth| Left::wanted(card(nth).bytes.len(), Some(card(nth).bytes.clone()));
-    groups.group("stored cards written again", all, again, same);
+    let wanted = |card: &Stored| Read::wanted(&card.said, card.bytes.clone());
+    groups.group("stored cards read", cards.iter(), Stored::read, wanted);
+    let again = |card: &Stored| card.read().to_write(card.bytes.len()).ours();
+    let same = |card: &Stored| Left::wanted(card.bytes.len(), Some(card.bytes.clone()));
+    groups.group("stored cards written again", cards.iter(), again, same);
 }
 
 fn compare_printed(groups: &mut Groups, cards: &[Stored]) {
-    let (all, folder) = (0..cards.len(), Folder::new("stored-cards"));
-    let by_tool =
-        |nth: usize| text(&output_on(folder.command(&["card", "-"]), [&cards[nth].bytes[..]]).stdout);
-    let printed = |nth: usize| cards[nth].printed.clone();
-    groups.group("stored cards, the tool's text", all.clone(), by_tool, printed);
-    match listed_by_program() {
-        Some(listed) => groups.group("stored cards listed", all, |nth| listed(&cards[nth].bytes), printed),
-        None => println!("stored cards listed: left out, as the program is not there"),
-    }
+    let folder = Folder::new("stored-cards");
+    let by_tool = |card: &Stored| printed(&output_on(folder.command(&["card", "-"]), [&card.bytes[..]]));
+    let wanted = |card: &Stored| card.printed.clone();
+    groups.group("stored cards, the tool's text", cards.iter(), by_tool, wanted);
+    let Some(program) = program() else {
+        return println!("stored cards listed: left out, as the program is not there");
+    };
+    let by_program = |card: &Stored| listed(&program, &card.bytes);
+    groups.group("stored cards listed", cards.iter(), by_program, wanted);
 }
 
 /// A group without inputs fails, so there are cards of both kinds.
 fn compare_today(groups: &mut Groups, cards: &[Stored]) {
-    let is_other = |nth: &usize| cards[*nth].said_today() != cards[*nth].said;
-    let (other, same): (Vec<usize>, Vec<usize>) = (0..cards.len()).partition(is_other);
-    let ours = |nth: usize| written(&cards[nth].told);
-    let wanted = |nth: usize| Left::wanted(cards[nth].bytes.len(), Some(cards[nth].said_today().joined()));
+    let is_other = |card: &&Stored| card.said_today() != card.said;
+    let (other, same): (Vec<&Stored>, Vec<&Stored>) = cards.iter().partition(is_other);
+    let ours = |card: &Stored| written(&card.told, card.bytes.len());
+    let wanted = |card: &Stored| Left::wanted(card.bytes.len(), card.said_today().card());
     groups.group("analyses of stored cards, an end earlier today", other.into_iter(), ours, wanted);
     groups.group("analyses of stored cards, the same card today", same.into_iter(), ours, wanted);
 }

@@ -6,7 +6,8 @@ use crate::analysis_left;
 use crate::card_rounds;
 use crate::frame_calls::settings;
 use crate::groups::{Groups, compared_exactly};
-use crate::packed::{LONGEST, exact_milliseconds, nearest_milliseconds};
+use crate::packed::{LONGEST, exact_milliseconds};
+use crate::track_length::Length;
 use bench::inputs::dice::Dice;
 use bench::inputs::tracks::{KINDS, Maker};
 use std::collections::BTreeSet;
@@ -33,53 +34,22 @@ const PLACES: usize = 12;
 /// So many analyses at each rate.
 const ANALYSES: usize = 3;
 
-/// From this rate on there are notes below the highest that a rate has a row for.
-const LOWEST_WITH_NOTES: u32 = 40;
+/// From this rate on a sheet has rows of its own. Below it few notes or none are low enough, and a sheet has the
+/// Goertzel rows of this rate, for notes 0 to 13.
+const LOWEST_WITH_OWN_ROWS: u32 = 40;
 
-/// A track by its rate and its number of samples.
-#[derive(Debug, Clone, Copy, PartialEq)]
-pub struct Length {
-    pub rate: u32,
-    pub samples: u64,
-}
-
-/// A track that was analysed: whether it has a key, the ends on its card, and whether none lies after the audio.
+/// A track that was analysed: whether it has a key, its segments' ends in seconds, those that are read on its card, and
+/// whether none of these lies after the audio.
 #[derive(Debug, Clone, PartialEq)]
 struct Analysed {
     length: Length,
     has_key: bool,
+    times: Vec<f64>,
     ends: Vec<u32>,
     inside: bool,
 }
 
-compared_exactly!(Length, Analysed);
-
-impl Length {
-    /// The duration that an analysis has, rounded once.
-    fn seconds(self) -> f64 {
-        self.samples as f64 / f64::from(self.rate)
-    }
-
-    /// Whether the samples reach so many milliseconds.
-    pub fn reaches(self, milliseconds: u64) -> bool {
-        u128::from(milliseconds) * u128::from(self.rate) <= 1000 * u128::from(self.samples)
-    }
-
-    /// Whether the samples end at most a millisecond after so many.
-    fn ends_near(self, milliseconds: u64) -> bool {
-        1000 * u128::from(self.samples) <= (u128::from(milliseconds) + 1) * u128::from(self.rate)
-    }
-
-    /// Whether the nearest millisecond lies after the audio.
-    fn ends_before_nearest(self) -> bool {
-        !self.reaches(nearest_milliseconds(self.seconds()))
-    }
-
-    /// Whether a track may have so many samples, at least one.
-    fn is_allowed(self) -> bool {
-        (1..=LONGEST * u64::from(self.rate)).contains(&self.samples)
-    }
-}
+compared_exactly!(Analysed);
 
 fn rates() -> impl Iterator<Item = u32> {
     (1..=EVERY_RATE_TO).chain(USUAL_RATES)
@@ -90,12 +60,12 @@ fn last_before(rate: u32, milliseconds: u64) -> u64 {
     (milliseconds * u64::from(rate) - 1) / 1000
 }
 
-/// Of as many lengths as there are samples in a second, from these samples on, one that misses the next millisecond by
-/// the least part of one.
+/// Of a second's lengths from these samples on, the last of those that end furthest past a millisecond; where the rate
+/// divides 1,000 all end at one.
 fn hair_below(rate: u32, samples: u64) -> u64 {
     let rate = u64::from(rate);
-    let missed = |samples: &u64| 1000 * samples % rate;
-    (samples..samples + rate).max_by_key(missed).expect("a rate above 0")
+    let past = |samples: &u64| 1000 * samples % rate;
+    (samples..samples + rate).max_by_key(past).expect("a rate above 0")
 }
 
 /// Tracks that end just before a millisecond, and those of one and two samples more.
@@ -126,7 +96,8 @@ fn whole_track(length: Length) -> Told {
     }
 }
 
-/// The end that is read on the track's card, and whether it is as near to the audio's as it can be and not after it.
+/// The end that is read on the track's card, and whether it is not after the audio and at most a millisecond before its
+/// end.
 fn end_on_card(length: &Length) -> (Vec<u32>, bool) {
     let ends = card_rounds::ends(&card_rounds::ours(&whole_track(*length))).to_vec();
     let near = ends.iter().all(|&end| length.reaches(end.into()) && length.ends_near(end.into()));
@@ -137,30 +108,35 @@ fn end_wanted(length: &Length) -> (Vec<u32>, bool) {
     (vec![exact_milliseconds(length.seconds()) as u32], true)
 }
 
+/// Those that end before their nearest millisecond, and those that end at or behind it.
+fn by_end<A>(all: impl Iterator<Item = A>, length: impl Fn(&A) -> Length) -> [(&'static str, Vec<A>); 2] {
+    let (before, behind) = all.partition(|one| length(one).ends_before_nearest());
+    [("before", before), ("at or behind", behind)]
+}
+
 /// Cards of durations alone.
 fn compare_cards(groups: &mut Groups) {
     let seed = groups.seed;
-    let all = || rates().flat_map(|rate| lengths(seed, rate));
-    let (before, behind): (Vec<Length>, Vec<Length>) = all().partition(|length| length.ends_before_nearest());
-    for (name, lengths) in [("before", before), ("at or behind", behind)] {
-        let name = format!("cards of tracks that end {name} their nearest millisecond");
+    let all = rates().flat_map(|rate| lengths(seed, rate));
+    for (place, lengths) in by_end(all, |length| *length) {
+        let name = format!("cards of tracks that end {place} their nearest millisecond");
         groups.shared_group(&name, lengths.len(), |nth| lengths[nth], end_on_card, end_wanted);
     }
 }
 
 /// Two octaves below the highest note that has a row.
 fn notes(rate: u32) -> (u8, u8) {
-    let highest = 69.0 + 12.0 * (0.45 * f64::from(rate.max(LOWEST_WITH_NOTES)) / 440.0).log2();
+    let highest = 69.0 + 12.0 * (0.45 * f64::from(rate.max(LOWEST_WITH_OWN_ROWS)) / 440.0).log2();
     let highest = highest.clamp(0.0, 95.0) as u8;
     (highest.saturating_sub(23), highest)
 }
 
-/// A sheet for that rate; where no note is low enough, with the Goertzel rows of a higher one.
+/// A sheet for that rate, with its own rows or the Goertzel rows of a higher one.
 fn sheet(settings: &Settings) -> Sheet {
-    if settings.rate >= LOWEST_WITH_NOTES {
+    if settings.rate >= LOWEST_WITH_OWN_ROWS {
         return Sheet::for_call(settings);
     }
-    let higher = Sheet::for_call(&settings.with(|settings| settings.rate = LOWEST_WITH_NOTES));
+    let higher = Sheet::for_call(&settings.with(|settings| settings.rate = LOWEST_WITH_OWN_ROWS));
     Sheet {
         head: settings.head(),
         constant_q_lengths: vec![],
@@ -170,7 +146,8 @@ fn sheet(settings: &Settings) -> Sheet {
     }
 }
 
-/// Some seconds with a window for each half, or 120 samples where these are longer.
+/// Some seconds, or 120 samples where these are longer, with a window every half second, or every twelfth of the track
+/// where that is longer.
 fn call(seed: u64, rate: u32, nth: usize) -> Asked {
     let mut dice = Dice::new(seed, ANALYSED_STREAM + (ANALYSES * rate as usize + nth) as u64);
     let seconds = if rate > EVERY_RATE_TO { 1.2 + dice.unit() } else { 2.5 + 3.0 * dice.unit() };
@@ -185,38 +162,47 @@ fn call(seed: u64, rate: u32, nth: usize) -> Asked {
     });
     let kind = &KINDS[dice.below(KINDS.len())];
     let track = (kind.make)(&mut Maker { dice, rate }, samples);
-    Asked::new(kind.name, settings, &Arc::new(sheet(&settings)), track)
+    let asked = Asked::new(kind.name, settings, &Arc::new(sheet(&settings)), track);
+    assert_eq!(asked.refusal(), None);
+    asked
 }
 
+/// What is told of a track. None is refused but one of which a frame is not finite.
 fn analysed(asked: &Asked) -> Analysed {
     let left = analysis_left::ours(asked);
+    assert!(matches!(left.answer.refusal, 0 | 9), "refused with {}", left.answer.refusal);
     let (length, has_key) = (asked.length(), left.answer.key != NO_KEY);
-    Analysed { length, has_key, ends: left.ends().to_vec(), inside: left.inside }
+    let (times, ends) = (left.times().to_vec(), left.ends().to_vec());
+    Analysed { length, has_key, times, ends, inside: left.inside }
 }
 
-/// The last end on the card of an analysis, and whether no end is after the audio.
-fn last_end(told: Analysed) -> (Option<u32>, bool) {
-    (told.ends.last().copied(), told.inside)
+/// The ends on the card of an analysis, and whether none is after the audio.
+fn ends(told: Analysed) -> (Vec<u32>, bool) {
+    (told.ends, told.inside)
 }
 
-fn last_end_wanted(told: Analysed) -> (Option<u32>, bool) {
-    (Some(exact_milliseconds(told.length.seconds()) as u32), true)
+/// Those of the segments' own ends, and the last at the end of the audio.
+fn ends_wanted(told: Analysed) -> (Vec<u32>, bool) {
+    let inner = told.times.split_last().map_or(&[][..], |(_, inner)| inner);
+    let all = inner.iter().copied().chain([told.length.seconds()]);
+    (all.map(|time| exact_milliseconds(time) as u32).collect(), true)
 }
 
-/// Cards of whole analyses that report a key. Where fewer than half of them do, none counts.
+/// Cards of whole analyses that report a key; some tracks are too faint, and some not finite. Where fewer than half of
+/// all report one, none counts.
 fn compare_analyses(groups: &mut Groups) {
     let seed = groups.seed;
     let calls = rates().flat_map(|rate| (0..ANALYSES).map(move |nth| call(seed, rate, nth)));
     let all: Vec<Analysed> = calls.map(|asked| analysed(&asked)).collect();
     let keyed: Vec<Analysed> = all.iter().filter(|told| told.has_key).cloned().collect();
     let keyed = if 2 * keyed.len() < all.len() { vec![] } else { keyed };
-    let mut compare = |name: &str, counts: fn(&Analysed) -> bool| {
-        let told = keyed.iter().filter(|told| counts(told)).cloned();
-        groups.group(&format!("cards of analyses, {name}"), told, last_end, last_end_wanted);
-    };
-    compare("a hair below a millisecond", |_| true);
-    compare("several segments", |told| told.ends.len() > 1);
-    compare("the nearest millisecond after the audio", |told| told.length.ends_before_nearest());
+    let several = keyed.iter().filter(|told| told.times.len() > 1).cloned();
+    groups.group("cards of analyses, several segments", several, ends, ends_wanted);
+    // at a rate that divides 1,000 they end at a whole millisecond
+    for (place, told) in by_end(keyed.into_iter(), |told| told.length) {
+        let name = format!("cards of analyses that end {place} their nearest millisecond");
+        groups.group(&name, told.into_iter(), ends, ends_wanted);
+    }
 }
 
 pub fn compare(groups: &mut Groups) {
