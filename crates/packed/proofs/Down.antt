@@ -38,11 +38,11 @@ module _ (s : Bool) (m : ℕ) (e : ℤ) (n limit k : ℕ) where
 
   -- and the quotient is not refused up to the limit
   by-quotient : RoundedDown (fin s m e) n k → k ≤ limit → wholeTimes (fin s m e) n limit ≡ Number k
-  by-quotient r low =
+  by-quotient r within =
       let reached : k ≤ q = le-div-iff-mul-le (down-pos e) .1 (r .reached) in
       let before : q < k + 1 = div-lt-iff-lt-mul (down-pos e) .1 (r .next-beyond) in
       let is : q ≡ k = omega (arith, reached, before) in
-      ap (λ (b : Bool). cond b Refused (limited limit q)) (sym (below-zero s m e) ∙ r .from-zero) ∙ ap (limited limit) is ∙ ap (λ (b : Bool). cond b (Number k) Refused) (le-leb k limit low)
+      ap (λ (b : Bool). cond b Refused (limited limit q)) (sym (below-zero s m e) ∙ r .from-zero) ∙ ap (limited limit) is ∙ ap (λ (b : Bool). cond b (Number k) Refused) (le-leb k limit within)
 
 module _ (n limit : ℕ) where
   only : (x : Float) (k : ℕ) → wholeTimes x n limit ≡ Number k → RoundedDown x n k × (k ≤ limit)
@@ -51,9 +51,9 @@ module _ (n limit : ℕ) where
   only (fin s m e) k p = by-tests s m e n limit k (belowZero s m) refl (leb (m * up e * n / down e) limit) refl p
 
   whenever : (x : Float) (k : ℕ) → RoundedDown x n k → k ≤ limit → wholeTimes x n limit ≡ Number k
-  whenever nan k r low = absurd (r .is-finite)
-  whenever (inf s) k r low = absurd (r .is-finite)
-  whenever (fin s m e) k r low = by-quotient s m e n limit k r low
+  whenever nan k r within = absurd (r .is-finite)
+  whenever (inf s) k r within = absurd (r .is-finite)
+  whenever (fin s m e) k r within = by-quotient s m e n limit k r within
 
   times-pack-down : PacksDown n limit (λ (x : Float). wholeTimes x n limit)
   times-pack-down = record { only = only; whenever = whenever }

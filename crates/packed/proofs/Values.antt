@@ -107,7 +107,7 @@ module _ (x : Float) (fit : T (fits binary64 x)) (plus : lt x plusZero ≡ false
       ∙ ap (limited limit) (ap (λ (z : ℕ). (2 ^ 52 + digits) * 2 ^ k * n / 2 ^ z) apart ∙ cancel (2 ^ 52 + digits) n k (1075 - field))
 
   pub big : 1 ≤ n → limit < 2 ^ 32 → 1055 ≤ field → Refused ≡ wholeTimes x n limit
-  big some low many =
+  big some within many =
       let k = field - 1 in
       let e : field ≡ suc k = omega arith in
       let width : field ≤ 2047 = omega arith in
@@ -117,5 +117,5 @@ module _ (x : Float) (fit : T (fits binary64 x)) (plus : lt x plusZero ≡ false
             let q = (2 ^ 52 + digits) * 2 ^ k * n / 2 ^ 1074 in
             let large : 2 ^ 32 * 2 ^ 1074 ≤ (2 ^ 52 + digits) * 2 ^ k * n =
             mul-le-mul {n₁ = 2 ^ 52 * 2 ^ 1054} {m₁ = 1} (mul-le-mul {n₁ = 2 ^ 52} {m₁ = 2 ^ 1054} (omega arith) (pow-mono {i = 1054} (omega arith))) some in
-            sym (normal k e (λ all. omega arith) ∙ ap (λ (b : Bool). cond b (Number q) Refused) (lt-leb q limit (lt-of-lt-of-le low (le-div-iff-mul-le (lit< tt) .1 large))))
+            sym (normal k e (λ all. omega arith) ∙ ap (λ (b : Bool). cond b (Number q) Refused) (lt-leb q limit (lt-of-lt-of-le within (le-div-iff-mul-le (lit< tt) .1 large))))
       ]

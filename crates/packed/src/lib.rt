@@ -1,4 +1,4 @@
-// Numbers as a key card packs them: thousandths and milliseconds of a float's exact value.
+// Numbers as a key card packs them: thousandths and milliseconds of a float's exact value, rounded down.
 ghost use mathlib.Core.Path.{_≡_};
 ghost use Prim.Native.Nat.{_^_, _≤_, _<_};
 ghost use Rattle.packed.specs.Packing.{numberOr, wholeTimes, thousandthsOf, millisecondsOf};
