@@ -9,92 +9,80 @@ use Rattle.laws.specs.Turns.{turns}
 use Rattle.laws.specs.Front.{list}
 use Rattle.laws.specs.Values.{plusZero}
 use Rattle.laws.proofs.Turns.{turns-part}
-use Rattle.laws.proofs.Front.{getD-list}
-use Rattle.correlations.specs.declared.lanes.Lanes.{Lanes}
-use Rattle.correlations.specs.Correlation.{meanOf, deviation, rotated, sumsOf, correlationOf}
+use Rattle.laws.proofs.Front.{getD-list, list-same}
+use Rattle.correlations.specs.declared.lanes.Four.{Four}
+use Rattle.correlations.specs.Correlation.{meanOf, deviation, rotated, summed, sumsOf, quotientOf, correlationOf}
 use Rattle.correlations.specs.inside.Deviations.{deviationsOf, deviationEnergyTurn, deviationEnergy, backward, wheelOf}
-use Rattle.correlations.specs.inside.Lanes.{four, productAdded, addedFour, lanesTurn, noLanes, lanesOf, quotientAt, quotientsOf, twelve, turnedOf}
+use Rattle.correlations.specs.inside.Divisors.{energyAt, divisorOf}
+use Rattle.correlations.specs.inside.Lanes.{four, alike, productAdded, addedFour, lanesTurn, lanesOf, twelve, productsOf, turnedOf}
 
 -- a deviation
-away-at : (values : List Float) (i : ℕ) → i < 12 → getD (deviationsOf values) i nan ≡ deviation values (meanOf values) i
+away-at : (values : List Float) (mean : Float) (i : ℕ) → i < 12 → getD (deviationsOf values mean) i nan ≡ deviation values mean i
 unfolding deviationsOf
-away-at values i h = getD-list (deviation values (meanOf values)) 12 i nan h
+away-at values mean i h = getD-list (deviation values mean) 12 i nan h
 
 -- a rotated deviation
-wheel-at : (values : List Float) (root i j : ℕ) → root < 12 → i < 12 → j + i ≡ root + 11 → getD (wheelOf values) j nan ≡ deviation values (meanOf values) (rotated root i)
+wheel-at : (values : List Float) (mean : Float) (root i j : ℕ) → root < 12 → i < 12 → j + i ≡ root + 11 → getD (wheelOf values mean) j nan ≡ deviation values mean (rotated root i)
 unfolding wheelOf
-wheel-at values root i j r h e =
+wheel-at values mean root i j r h e =
     let turned : 23 - j ≡ i + 12 - root = omega arith in
-    getD-list (λ (k : ℕ). getD (deviationsOf values) (backward k) nan) 23 j nan (omega arith)
-    ∙ away-at values (backward j) (omega arith)
-    ∙ ap (λ (k : ℕ). deviation values (meanOf values) (k % 12)) turned
-
--- ---- the three sums' turns
-abbrev productTurn : List Float → List Float → ℕ → Float → Float → ℕ → Float → Float
-productTurn chroma profile root mean profileMean i sum = add binary32 sum (mul binary32 (deviation chroma mean i) (deviation profile profileMean (rotated root i)))
-
-abbrev chromaTurn : List Float → Float → ℕ → Float → Float
-chromaTurn chroma mean i sum = add binary32 sum (mul binary32 (deviation chroma mean i) (deviation chroma mean i))
-
-abbrev profileTurn : List Float → ℕ → Float → ℕ → Float → Float
-profileTurn profile root profileMean i sum = add binary32 sum (mul binary32 (deviation profile profileMean (rotated root i)) (deviation profile profileMean (rotated root i)))
+    getD-list (λ (k : ℕ). getD (deviationsOf values mean) (backward k) nan) 23 j nan (omega arith)
+    ∙ away-at values mean (backward j) (omega arith)
+    ∙ ap (λ (k : ℕ). deviation values mean (k % 12)) turned
 
 -- the chroma's squares
-energy-is : (chroma : List Float) → deviationEnergy (deviationsOf chroma) ≡ turns (chromaTurn chroma (meanOf chroma)) 12 0 plusZero
+energy-is : (chroma : List Float) (mean : Float) → deviationEnergy (deviationsOf chroma mean) ≡ summed (deviation chroma mean) (deviation chroma mean)
 unfolding deviationEnergy
-energy-is chroma =
-    turns-part (λ (s : Float). s) (deviationEnergyTurn (deviationsOf chroma)) (chromaTurn chroma (meanOf chroma)) 12 0
-    (λ (i : ℕ) (s : Float) (h : i < 0 + 12). ap (λ (x : Float). add binary32 s (mul binary32 x x)) (away-at chroma i (omega arith))) plusZero
+energy-is chroma mean =
+    turns-part (λ (s : Float). s) (deviationEnergyTurn (deviationsOf chroma mean)) (λ (i : ℕ) (s : Float). productAdded s (deviation chroma mean i) (deviation chroma mean i)) 12 0
+    (λ (i : ℕ) (s : Float) (h : i < 0 + 12). ap (λ (x : Float). add binary32 s (mul binary32 x x)) (away-at chroma mean i (omega arith))) plusZero
 
--- one lane's correlation is that of its root; `products` and `squares` pick the lane's sums, and `from` is where it reads the wheel
-module _ (chroma profile : List Float) (base root : ℕ) (from : ℕ → ℕ) (r : root < 12) (f : (i : ℕ) → i < 12 → from i + i ≡ root + 11) where
-  abbrev step : ℕ → Lanes → Lanes
-  step = lanesTurn (deviationsOf chroma) (wheelOf profile) base
+module _ (chroma profile : List Float) (mean profileMean : Float) where
+  abbrev away : List Float
+  away = deviationsOf chroma mean
 
-  abbrev summed : Lanes
-  summed = lanesOf (deviationsOf chroma) (wheelOf profile) base
+  abbrev wheel : List Float
+  wheel = wheelOf profile profileMean
 
-  abbrev productSum : Float → Float
-  productSum = turns (productTurn chroma profile root (meanOf chroma) (meanOf profile)) 12 0
+  -- one product more, of a root
+  abbrev productTurn : ℕ → ℕ → Float → Float
+  productTurn root i sum = productAdded sum (deviation chroma mean i) (deviation profile profileMean (rotated root i))
 
-  abbrev squareSum : Float → Float
-  squareSum = turns (profileTurn profile root (meanOf profile)) 12 0
+  -- the products of a root
+  abbrev productsAt : ℕ → Float
+  productsAt root = turns (productTurn root) 12 0 plusZero
 
-  read-at : (i : ℕ) → i < 12 → getD (wheelOf profile) (from i) nan ≡ deviation profile (meanOf profile) (rotated root i)
-  read-at i h = wheel-at profile root i (from i) r h (f i h)
-
-  lane-products : (products : Lanes → Float) → ((i : ℕ) (s : Lanes) → products (step i s) ≡ productAdded (products s) (getD (deviationsOf chroma) i nan) (getD (wheelOf profile) (from i) nan)) → products summed ≡ productSum (products noLanes)
+  -- one lane's sum is that of its root; `pick` picks the lane, and `from` is where it reads the wheel
+  lane : (pick : Four → Float) (base root : ℕ) (from : ℕ → ℕ) → root < 12 → ((i : ℕ) → i < 12 → from i + i ≡ root + 11)
+      → ((i : ℕ) (s : Four) → pick (lanesTurn away wheel base i s) ≡ productAdded (pick s) (getD away i nan) (getD wheel (from i) nan))
+      → pick (lanesOf away wheel base) ≡ turns (productTurn root) 12 0 (pick (alike plusZero))
   unfolding lanesOf
-  lane-products products e =
-      turns-part products step (productTurn chroma profile root (meanOf chroma) (meanOf profile)) 12 0
-      (λ (i : ℕ) (s : Lanes) (h : i < 0 + 12). e i s ∙ rw (away-at chroma i (omega arith), read-at i (omega arith))) noLanes
+  lane pick base root from r f turn =
+      turns-part pick (lanesTurn away wheel base) (productTurn root) 12 0
+      (λ (i : ℕ) (s : Four) (h : i < 0 + 12). turn i s ∙ rw (away-at chroma mean i (omega arith), wheel-at profile profileMean root i (from i) r (omega arith) (f i (omega arith)))) (alike plusZero)
 
-  lane-squares : (squares : Lanes → Float) → ((i : ℕ) (s : Lanes) → squares (step i s) ≡ productAdded (squares s) (getD (wheelOf profile) (from i) nan) (getD (wheelOf profile) (from i) nan)) → squares summed ≡ squareSum (squares noLanes)
-  unfolding lanesOf
-  lane-squares squares e =
-      turns-part squares step (profileTurn profile root (meanOf profile)) 12 0
-      (λ (i : ℕ) (s : Lanes) (h : i < 0 + 12). e i s ∙ rw (read-at i (omega arith))) noLanes
+  -- the products of four roots
+  lanes-are : (root : ℕ) → root ≤ 8 → lanesOf away wheel root ≡ four (productsAt root) (productsAt (root + 1)) (productsAt (root + 2)) (productsAt (root + 3))
+  unfolding lanesTurn addedFour
+  lanes-are root h =
+      let first = lane (λ (s : Four). s .first) root root (λ (i : ℕ). root + 11 - i) (omega arith) (λ (i : ℕ) (b : i < 12). omega arith) (λ (i : ℕ) (s : Four). refl) in
+      let second = lane (λ (s : Four). s .second) root (root + 1) (λ (i : ℕ). root + 11 - i + 1) (omega arith) (λ (i : ℕ) (b : i < 12). omega arith) (λ (i : ℕ) (s : Four). refl) in
+      let third = lane (λ (s : Four). s .third) root (root + 2) (λ (i : ℕ). root + 11 - i + 2) (omega arith) (λ (i : ℕ) (b : i < 12). omega arith) (λ (i : ℕ) (s : Four). refl) in
+      let fourth = lane (λ (s : Four). s .fourth) root (root + 3) (λ (i : ℕ). root + 11 - i + 3) (omega arith) (λ (i : ℕ) (b : i < 12). omega arith) (λ (i : ℕ) (s : Four). refl) in
+      λ k. four (first k) (second k) (third k) (fourth k)
 
-  lane : (products squares : Lanes → Float) → products noLanes ≡ plusZero → squares noLanes ≡ plusZero
-      → ((i : ℕ) (s : Lanes) → products (step i s) ≡ productAdded (products s) (getD (deviationsOf chroma) i nan) (getD (wheelOf profile) (from i) nan))
-      → ((i : ℕ) (s : Lanes) → squares (step i s) ≡ productAdded (squares s) (getD (wheelOf profile) (from i) nan) (getD (wheelOf profile) (from i) nan))
-      → quotientAt (products summed) (deviationEnergy (deviationsOf chroma)) (squares summed) ≡ correlationOf chroma profile root
-  unfolding correlationOf sumsOf
-  lane products squares p s e d = rw (lane-products products e ∙ ap productSum p, lane-squares squares d ∙ ap squareSum s, energy-is chroma)
+  -- the products of all roots
+  products-are : productsOf away wheel ≡ list productsAt 12
+  unfolding productsOf list
+  products-are = λ k. twelve (lanes-are 0 (omega arith) k) (lanes-are 4 (omega arith) k) (lanes-are 8 (omega arith) k)
 
--- the correlations at four roots
-quotients-are : (chroma profile : List Float) (root : ℕ) → root ≤ 8
-    → quotientsOf (lanesOf (deviationsOf chroma) (wheelOf profile) root) (deviationEnergy (deviationsOf chroma))
-    ≡ four (correlationOf chroma profile root) (correlationOf chroma profile (root + 1)) (correlationOf chroma profile (root + 2)) (correlationOf chroma profile (root + 3))
-unfolding quotientsOf lanesTurn addedFour
-quotients-are chroma profile root h =
-    let first = lane chroma profile root root (λ (i : ℕ). root + 11 - i) (omega arith) (λ (i : ℕ) (b : i < 12). omega arith) (λ (s : Lanes). s .products .first) (λ (s : Lanes). s .squares .first) refl refl (λ (i : ℕ) (s : Lanes). refl) (λ (i : ℕ) (s : Lanes). refl) in
-    let second = lane chroma profile root (root + 1) (λ (i : ℕ). root + 11 - i + 1) (omega arith) (λ (i : ℕ) (b : i < 12). omega arith) (λ (s : Lanes). s .products .second) (λ (s : Lanes). s .squares .second) refl refl (λ (i : ℕ) (s : Lanes). refl) (λ (i : ℕ) (s : Lanes). refl) in
-    let third = lane chroma profile root (root + 2) (λ (i : ℕ). root + 11 - i + 2) (omega arith) (λ (i : ℕ) (b : i < 12). omega arith) (λ (s : Lanes). s .products .third) (λ (s : Lanes). s .squares .third) refl refl (λ (i : ℕ) (s : Lanes). refl) (λ (i : ℕ) (s : Lanes). refl) in
-    let fourth = lane chroma profile root (root + 3) (λ (i : ℕ). root + 11 - i + 3) (omega arith) (λ (i : ℕ) (b : i < 12). omega arith) (λ (s : Lanes). s .products .fourth) (λ (s : Lanes). s .squares .fourth) refl refl (λ (i : ℕ) (s : Lanes). refl) (λ (i : ℕ) (s : Lanes). refl) in
-    λ k. four (first k) (second k) (third k) (fourth k)
-
--- the correlations at all roots
-pub turned-is : (chroma profile : List Float) → turnedOf (deviationsOf chroma) (deviationEnergy (deviationsOf chroma)) (wheelOf profile) ≡ list (correlationOf chroma profile) 12
-unfolding turnedOf list
-turned-is chroma profile = λ k. twelve (quotients-are chroma profile 0 (omega arith) k) (quotients-are chroma profile 4 (omega arith) k) (quotients-are chroma profile 8 (omega arith) k)
+-- the correlations at all roots, where each divisor is that of its root
+pub turned-is : (chroma profile divisors : List Float)
+    → ((root : ℕ) → root < 12 → getD divisors root nan ≡ divisorOf (deviationEnergy (deviationsOf chroma (meanOf chroma))) (energyAt profile (meanOf profile) root))
+    → turnedOf (deviationsOf chroma (meanOf chroma)) (wheelOf profile (meanOf profile)) divisors ≡ list (correlationOf chroma profile) 12
+unfolding turnedOf correlationOf sumsOf quotientOf divisorOf energyAt
+turned-is chroma profile divisors d =
+    let sums = products-are chroma profile (meanOf chroma) (meanOf profile) in
+    list-same _ _ 12
+    (λ (root : ℕ) (h : root < 12).
+    rw (ap (λ (l : List Float). getD l root nan) sums ∙ getD-list (productsAt chroma profile (meanOf chroma) (meanOf profile)) 12 root nan h, d root h, energy-is chroma (meanOf chroma)))

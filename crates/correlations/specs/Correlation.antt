@@ -8,7 +8,6 @@ use Rattle.laws.specs.Values.{plusZero, epsilon}
 use Rattle.laws.specs.Pick.{maximumNumber}
 use Rattle.numbers.specs.Sum.{sumOf}
 use Rattle.roots.specs.Root.{rootOf}
-use Rattle.correlations.specs.declared.correlation.Sums.{Sums}
 
 -- the mean of twelve values; 0x4140_0000 is 12
 abbrev pub meanOf : List Float → Float
@@ -25,6 +24,12 @@ rotated root i = (i + 12 - root) % 12
 -- the products of two rows of deviations, over the pitch classes from C up, summed from +0
 abbrev pub summed : (ℕ → Float) → (ℕ → Float) → Float
 summed a b = turns (λ (i : ℕ) (sum : Float). add binary32 sum (mul binary32 (a i) (b i))) 12 0 plusZero
+
+-- the sums of a correlation: products, and squares of either side
+pub record Sums : Type 0 where
+  pub products : Float
+  pub «chroma_energy» : Float
+  pub «profile_energy» : Float
 
 -- of chroma and profile, and of either with itself; the profile's squares are summed in rotated order too
 unfoldable pub sumsOf : List Float → List Float → ℕ → Float → Float → Sums

@@ -1,4 +1,4 @@
-// The sums of four correlations side by side, so that no sum waits for another.
+// The sums of products of four correlations side by side, so that no sum waits for another.
 ghost use mathlib.Core.Path.{_≡_};
 ghost use Prim.Native.Nat.{_≤_};
 ghost use Rattle.correlations.specs.inside.Lanes.{alike, fourAt, addedFour, lanesOf};
@@ -9,12 +9,6 @@ pub struct Four {
     pub second: f32,
     pub third: f32,
     pub fourth: f32,
-}
-
-// The running sums: products, and squares of the profile.
-pub struct Lanes {
-    pub products: Four,
-    pub squares: Four,
 }
 
 // The same value for all four.
@@ -55,23 +49,14 @@ fn add_products(sums: Four, left: Four, right: Four) -> Four
 }
 
 // The sums over the pitch classes from C up, for the root and the three above it.
-pub fn sum_lanes(away: &[f32; 12], wheel: &[f32; 23], root: usize) -> Lanes
+pub fn sum_lanes(away: &[f32; 12], wheel: &[f32; 23], root: usize) -> Four
     requires { ⌜ root ≤ 8 ⌝ }
     ensures { λ r. ⌜ r ≡ lanesOf (now (away .entry)) (now (wheel .entry)) root ⌝ }
 {
-    let zero = same_for_all(0.0);
-    let mut sums = Lanes {
-        products: zero,
-        squares: zero,
-    };
+    let mut sums = same_for_all(0.0);
     let mut i = 0;
     while i < 12 {
-        let profile = four_at(wheel, root + 11 - i);
-        let chroma = same_for_all(away[i]);
-        sums = Lanes {
-            products: add_products(sums.products, chroma, profile),
-            squares: add_products(sums.squares, profile, profile),
-        };
+        sums = add_products(sums, same_for_all(away[i]), four_at(wheel, root + 11 - i));
         i += 1;
     }
     sums

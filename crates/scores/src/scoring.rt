@@ -1,36 +1,70 @@
 // A key's score: the mean of its correlations with four profiles.
 ghost use mathlib.Core.Path.{_≡_};
 ghost use Prim.Native.Nat.{_<_};
-ghost use Rattle.scores.specs.Profiles.{profileAt};
-ghost use Rattle.correlations.specs.inside.Deviations.{wheelOf};
-ghost use Rattle.scores.specs.inside.Modes.{modeSums};
+ghost use Rattle.scores.specs.inside.Modes.{wheelAt, divisorsOf, divisorsAt, modeSums};
 ghost use Rattle.scores.specs.Scores.{scoresOf};
-use crate::profiles::PROFILES;
+use crate::profiles::ENERGIES;
+use crate::profiles::ENERGY_AT;
+use crate::profiles::mean_at;
+use crate::profiles::profile_at;
 use correlations::correlation::correlations;
+use correlations::correlation::divisor;
 use correlations::deviations::deviations;
 use correlations::deviations::energy;
+use correlations::deviations::mean;
 use correlations::deviations::wheel;
 use numbers::twelve::add_twelve;
 
 // The wheel of the profile in a row of the table.
 fn wheel_at(row: usize) -> [f32; 23]
     requires { ⌜ row < 8 ⌝ }
-    ensures { λ r. ⌜ r ≡ wheelOf (profileAt row) ⌝ }
+    ensures { λ r. ⌜ r ≡ wheelAt row ⌝ }
 {
-    let profile = PROFILES[row];
-    wheel(&profile)
+    let profile = profile_at(row);
+    wheel(&profile, mean_at(row))
+}
+
+// The divisor for each energy of a profile, from the chroma's.
+fn divisors(energy: f32) -> [f32; 17]
+    ensures { λ r. ⌜ r ≡ divisorsOf energy ⌝ }
+{
+    let energies = ENERGIES;
+    let mut divisors = [0.0; 17];
+    let mut k = 0;
+    while k < 17 {
+        divisors[k] = divisor(energy, energies[k]);
+        k += 1;
+    }
+    divisors
+}
+
+// Those of the profile in a row of the table, by root.
+fn divisors_at(divisors: &[f32; 17], row: usize) -> [f32; 12]
+    requires { ⌜ row < 8 ⌝ }
+    ensures { λ r. ⌜ r ≡ divisorsAt (now (divisors .entry)) row ⌝ }
+{
+    let places = ENERGY_AT[row];
+    let mut at_roots = [0.0; 12];
+    let mut root = 0;
+    while root < 12 {
+        at_roots[root] = divisors[places[root] as usize];
+        root += 1;
+    }
+    at_roots
 }
 
 // The correlations with the four profiles of a mode together, by root; 0 is major and 1 is minor.
-fn sum_mode(away: &[f32; 12], energy: f32, mode: usize) -> [f32; 12]
+fn sum_mode(away: &[f32; 12], divisors: &[f32; 17], mode: usize) -> [f32; 12]
     requires { ⌜ mode < 2 ⌝ }
-    ensures { λ r. ⌜ r ≡ modeSums (now (away .entry)) energy mode ⌝ }
+    ensures { λ r. ⌜ r ≡ modeSums (now (away .entry)) (now (divisors .entry)) mode ⌝ }
 {
     let mut sums = [0.0; 12];
     let mut p = 0;
     while p < 4 {
-        let wheel = wheel_at(2 * p + mode);
-        let more = correlations(away, energy, &wheel);
+        let row = 2 * p + mode;
+        let wheel = wheel_at(row);
+        let at_roots = divisors_at(divisors, row);
+        let more = correlations(away, &wheel, &at_roots);
         sums = add_twelve(&sums, &more);
         p += 1;
     }
@@ -41,9 +75,9 @@ fn sum_mode(away: &[f32; 12], energy: f32, mode: usize) -> [f32; 12]
 pub fn score_keys(chroma: &[f32; 12]) -> [f32; 24]
     ensures { λ r. ⌜ r ≡ scoresOf (now (chroma .entry)) ⌝ }
 {
-    let away = deviations(chroma);
-    let squares = energy(&away);
-    let sums = [sum_mode(&away, squares, 0), sum_mode(&away, squares, 1)];
+    let away = deviations(chroma, mean(chroma));
+    let divisors = divisors(energy(&away));
+    let sums = [sum_mode(&away, &divisors, 0), sum_mode(&away, &divisors, 1)];
     let mut scores = [0.0; 24];
     let mut k = 0;
     while k < 24 {

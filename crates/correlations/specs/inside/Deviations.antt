@@ -6,11 +6,11 @@ use lib.Ieee.{Float, nan, binary32, add, mul}
 use Rattle.laws.specs.Turns.{turns}
 use Rattle.laws.specs.Front.{list}
 use Rattle.laws.specs.Values.{plusZero}
-use Rattle.correlations.specs.Correlation.{meanOf, deviation}
+use Rattle.correlations.specs.Correlation.{deviation}
 
 -- the deviations from the mean
-unfoldable pub deviationsOf : List Float → List Float
-deviationsOf values = list (deviation values (meanOf values)) 12
+unfoldable pub deviationsOf : List Float → Float → List Float
+deviationsOf values mean = list (deviation values mean) 12
 
 -- one more square
 abbrev pub deviationEnergyTurn : List Float → ℕ → Float → Float
@@ -25,5 +25,5 @@ abbrev pub backward : ℕ → ℕ
 backward j = (23 - j) % 12
 
 -- the deviations downward, almost twice, so that every rotation stands in one piece
-unfoldable pub wheelOf : List Float → List Float
-wheelOf values = list (λ (j : ℕ). getD (deviationsOf values) (backward j) nan) 23
+unfoldable pub wheelOf : List Float → Float → List Float
+wheelOf values mean = list (λ (j : ℕ). getD (deviationsOf values mean) (backward j) nan) 23

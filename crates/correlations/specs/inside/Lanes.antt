@@ -2,12 +2,11 @@
 use Prim.Native.Nat.{ℕ, _+_, _-_}
 use mathlib.Core.List.{List, [], _∷_}
 use lib.ListN.{getD}
-use lib.Ieee.{Float, nan, binary32, add, mul}
+use lib.Ieee.{Float, nan, binary32, add, mul, div}
 use Rattle.laws.specs.Turns.{turns}
+use Rattle.laws.specs.Front.{list}
 use Rattle.laws.specs.Values.{plusZero}
 use Rattle.correlations.specs.declared.lanes.Four.{Four}
-use Rattle.correlations.specs.declared.lanes.Lanes.{Lanes}
-use Rattle.correlations.specs.Correlation.{quotientOf}
 
 -- four values
 abbrev pub four : Float → Float → Float → Float → Four
@@ -30,27 +29,12 @@ unfoldable pub addedFour : Four → Four → Four → Four
 addedFour s l r = four (productAdded (s .first) (l .first) (r .first)) (productAdded (s .second) (l .second) (r .second)) (productAdded (s .third) (l .third) (r .third)) (productAdded (s .fourth) (l .fourth) (r .fourth))
 
 -- one pitch class more
-unfoldable pub lanesTurn : List Float → List Float → ℕ → ℕ → Lanes → Lanes
-lanesTurn away wheel root i s = record {
-  products = addedFour (s .products) (alike (getD away i nan)) (fourAt wheel (root + 11 - i));
-  squares = addedFour (s .squares) (fourAt wheel (root + 11 - i)) (fourAt wheel (root + 11 - i));
-}
+unfoldable pub lanesTurn : List Float → List Float → ℕ → ℕ → Four → Four
+lanesTurn away wheel root i sums = addedFour sums (alike (getD away i nan)) (fourAt wheel (root + 11 - i))
 
--- no pitch class yet
-abbrev pub noLanes : Lanes
-noLanes = record { products = alike plusZero; squares = alike plusZero }
-
--- the sums over the pitch classes from C up, for the root and the three above it
-unfoldable pub lanesOf : List Float → List Float → ℕ → Lanes
-lanesOf away wheel root = turns (lanesTurn away wheel root) 12 0 noLanes
-
--- a correlation, from its sums
-abbrev pub quotientAt : Float → Float → Float → Float
-quotientAt products chromaEnergy profileEnergy = quotientOf (record { products = products; «chroma_energy» = chromaEnergy; «profile_energy» = profileEnergy })
-
--- the correlations at four roots, from their sums
-unfoldable pub quotientsOf : Lanes → Float → Four
-quotientsOf s chromaEnergy = four (quotientAt (s .products .first) chromaEnergy (s .squares .first)) (quotientAt (s .products .second) chromaEnergy (s .squares .second)) (quotientAt (s .products .third) chromaEnergy (s .squares .third)) (quotientAt (s .products .fourth) chromaEnergy (s .squares .fourth))
+-- the sums of products over the pitch classes from C up, for the root and the three above it
+unfoldable pub lanesOf : List Float → List Float → ℕ → Four
+lanesOf away wheel root = turns (lanesTurn away wheel root) 12 0 (alike plusZero)
 
 -- three times four values
 abbrev pub twelve : Four → Four → Four → List Float
@@ -59,10 +43,14 @@ twelve a b c =
     ∷ b .first ∷ b .second ∷ b .third ∷ b .fourth
     ∷ c .first ∷ c .second ∷ c .third ∷ c .fourth ∷ []
 
--- the correlations from the root up
-abbrev pub quotientsFrom : List Float → Float → List Float → ℕ → Four
-quotientsFrom away chromaEnergy wheel root = quotientsOf (lanesOf away wheel root) chromaEnergy
+-- the sums of products at all roots
+unfoldable pub productsOf : List Float → List Float → List Float
+productsOf away wheel = twelve (lanesOf away wheel 0) (lanesOf away wheel 4) (lanesOf away wheel 8)
 
--- the correlations at all roots
-unfoldable pub turnedOf : List Float → Float → List Float → List Float
-turnedOf away chromaEnergy wheel = twelve (quotientsFrom away chromaEnergy wheel 0) (quotientsFrom away chromaEnergy wheel 4) (quotientsFrom away chromaEnergy wheel 8)
+-- the correlation at a root
+abbrev pub quotientAt : List Float → List Float → ℕ → Float
+quotientAt products divisors root = div binary32 (getD products root nan) (getD divisors root nan)
+
+-- the correlations at all roots, each with its divisor
+unfoldable pub turnedOf : List Float → List Float → List Float → List Float
+turnedOf away wheel divisors = list (quotientAt (productsOf away wheel) divisors) 12

@@ -1,22 +1,39 @@
--- The correlations with the four profiles of a mode, summed at all roots together. No promise names it. Definitions only.
+-- The divisors for all energies of the profiles, and the correlations with the four profiles of a mode, summed at all roots together. No promise names it. Definitions only.
 use Prim.Native.Nat.{ℕ, _+_, _*_}
 use mathlib.Core.List.{List}
-use lib.Ieee.{Float}
+use lib.ListN.{getD}
+use lib.Ieee.{Float, nan}
 use Rattle.laws.specs.Turns.{turns}
+use Rattle.laws.specs.Front.{list}
 use Rattle.laws.specs.Values.{plusZero}
 use Rattle.numbers.specs.Sum.{addedEach}
+use Rattle.correlations.specs.Correlation.{meanOf}
 use Rattle.correlations.specs.inside.Deviations.{wheelOf}
+use Rattle.correlations.specs.inside.Divisors.{divisorOf}
 use Rattle.correlations.specs.inside.Lanes.{alike, twelve, turnedOf}
 use Rattle.scores.specs.Profiles.{profileAt}
+use Rattle.scores.specs.inside.Constants.{energies, placeAt}
+
+-- the divisor for each energy, from the chroma's
+unfoldable pub divisorsOf : Float → List Float
+divisorsOf chromaEnergy = list (λ (k : ℕ). divisorOf chromaEnergy (getD energies k nan)) 17
+
+-- those of the profile in a row, by root
+unfoldable pub divisorsAt : List Float → ℕ → List Float
+divisorsAt divisors row = list (λ (root : ℕ). getD divisors (placeAt row root) nan) 12
+
+-- the wheel of the profile in a row
+abbrev pub wheelAt : ℕ → List Float
+wheelAt row = wheelOf (profileAt row) (meanOf (profileAt row))
 
 -- profile p of the mode
-unfoldable pub modeTurn : List Float → Float → ℕ → ℕ → List Float → List Float
-modeTurn away chromaEnergy mode p sums = addedEach sums (turnedOf away chromaEnergy (wheelOf (profileAt (2 * p + mode))))
+unfoldable pub modeTurn : List Float → List Float → ℕ → ℕ → List Float → List Float
+modeTurn away divisors mode p sums = addedEach sums (turnedOf away (wheelAt (2 * p + mode)) (divisorsAt divisors (2 * p + mode)))
 
 -- twelve sums of nothing
 abbrev pub noModeSums : List Float
 noModeSums = twelve (alike plusZero) (alike plusZero) (alike plusZero)
 
 -- the correlations with the four profiles of a mode together, by root
-unfoldable pub modeSums : List Float → Float → ℕ → List Float
-modeSums away chromaEnergy mode = turns (modeTurn away chromaEnergy mode) 4 0 noModeSums
+unfoldable pub modeSums : List Float → List Float → ℕ → List Float
+modeSums away divisors mode = turns (modeTurn away divisors mode) 4 0 noModeSums

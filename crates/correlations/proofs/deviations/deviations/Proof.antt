@@ -1,10 +1,8 @@
 -- The array is written from the front, a deviation a turn.
 use borrow.Author.Needs.{needs}
-use mathlib.Core.Path.{refl, ap, _∙_}
+use mathlib.Core.Path.{refl}
 use native.Mathlib.Omega.{arith}
 use Prim.Native.Nat.{_≤_, _-_}
-use lib.Ieee.{Float, binary32, ofBits, div}
-use Rattle.laws.specs.Front.{list}
 use Rattle.laws.proofs.Front.{Filled, filled-start, filled-more, filled-whole}
 use Rattle.correlations.specs.Correlation.{deviation}
 use Rattle.correlations.specs.inside.Deviations.{deviationsOf}
@@ -16,9 +14,6 @@ Inv-loop values mean away₀ i₀ away i = (i ≤ 12) × Filled (deviation value
 
 abbrev μ-loop : tie.MeasureT-loop
 μ-loop values mean away₀ i₀ away i = 12 - i
-
-sum-of-twelve-requires : tie.Need-sum-of-twelve-requires Inv-loop μ-loop
-sum-of-twelve-requires c κs = search needs
 
 loop-holds : tie.Need-loop-holds Inv-loop μ-loop
 loop-holds c = (omega arith, filled-start _ _)
@@ -46,10 +41,7 @@ loop-again c = (omega arith, filled-more _ _ _ (c .before .before .loop .i) (c .
 
 returns : tie.Need-returns Inv-loop μ-loop
 unfolding deviationsOf
-returns c =
-    let values = c .before .before .before .args .values .now in
-    filled-whole _ _ _ (c .before .loop .i) 12 (c .before .loop .inv .1) (omega arith) refl
-    ∙ ap (λ (sum : Float). list (deviation values (div binary32 sum (ofBits binary32 0x4140_0000))) 12) (c .before .before .sum-of-twelve .ensures)
+returns c = filled-whole _ _ _ (c .before .loop .i) 12 (c .before .loop .inv .1) (omega arith) refl
 
 pub deviations-spec : {M : Type 1} → statement M
 deviations-spec =
@@ -57,7 +49,6 @@ deviations-spec =
     (tie.spec
     Inv-loop
     μ-loop
-    sum-of-twelve-requires
     loop-holds
     mul-away
     element-copy-out-away

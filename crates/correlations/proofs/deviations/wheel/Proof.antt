@@ -13,10 +13,10 @@ use Rattle.correlations.proofs.deviations.wheel.Statement.{statement}
 use Rattle.correlations.proofs.deviations.wheel.Tie as tie
 
 abbrev Inv-loop : tie.InvT-loop
-Inv-loop values away wheel₀ j₀ wheel j = (j ≤ 23) × Filled (λ (k : ℕ). getD away (backward k) nan) wheel₀ wheel j
+Inv-loop values mean away wheel₀ j₀ wheel j = (j ≤ 23) × Filled (λ (k : ℕ). getD away (backward k) nan) wheel₀ wheel j
 
 abbrev μ-loop : tie.MeasureT-loop
-μ-loop values away wheel₀ j₀ wheel j = 23 - j
+μ-loop values mean away wheel₀ j₀ wheel j = 23 - j
 
 deviations-requires : tie.Need-deviations-requires Inv-loop μ-loop
 deviations-requires c κs = search needs

@@ -23,15 +23,6 @@ loop-holds : tie.Need-loop-holds Inv-loop μ-loop
 unfolding ofBits lanesOf
 loop-holds c = (omega arith, rw (c .same-for-all .ensures) (turns-start _ _ _))
 
-add-four-at : tie.Need-add-four-at Inv-loop μ-loop
-add-four-at c = search needs
-
-sub-four-at : tie.Need-sub-four-at Inv-loop μ-loop
-sub-four-at c = search needs
-
-four-at-requires : tie.Need-four-at-requires Inv-loop μ-loop
-four-at-requires c κs = search needs
-
 mul-same-for-all : tie.Need-mul-same-for-all Inv-loop μ-loop
 mul-same-for-all c = search needs
 
@@ -41,11 +32,17 @@ element-copy-out-same-for-all c = search needs
 same-for-all-requires-2 : tie.Need-same-for-all-requires-2 Inv-loop μ-loop
 same-for-all-requires-2 c κs = search needs
 
+add-four-at : tie.Need-add-four-at Inv-loop μ-loop
+add-four-at c = search needs
+
+sub-four-at : tie.Need-sub-four-at Inv-loop μ-loop
+sub-four-at c = search needs
+
+four-at-requires : tie.Need-four-at-requires Inv-loop μ-loop
+four-at-requires c κs = search needs
+
 add-products-requires : tie.Need-add-products-requires Inv-loop μ-loop
 add-products-requires c κs = search needs
-
-add-products-requires-2 : tie.Need-add-products-requires-2 Inv-loop μ-loop
-add-products-requires-2 c κs = search needs
 
 add-i : tie.Need-add-i Inv-loop μ-loop
 add-i c = search needs
@@ -56,8 +53,12 @@ loop-less c = search needs
 loop-again : tie.Need-loop-again Inv-loop μ-loop
 unfolding lanesTurn
 loop-again c =
-    let turn = c .before .before .before .before .before .before in
-    (omega arith, turns-again _ 12 (turn .loop .i) (turn .loop .inv .1) (c .before .before .before .before .before .loop-test .taken) cc)
+    let copied = c .before .before in
+    let turn = copied .before .before .before in (
+      omega arith,
+      turns-again _ 12 (turn .loop .i) (turn .loop .inv .1) (copied .before .before .loop-test .taken)
+          (rw (c .add-products .ensures, copied .same-for-all2 .ensures, c .before .four-at .ensures)),
+    )
 
 returns : tie.Need-returns Inv-loop μ-loop
 returns c = turns-end _ 12 (c .before .loop .i) (c .before .loop .inv .1) (c .loop-test .left)
@@ -70,14 +71,13 @@ sum-lanes-spec =
     μ-loop
     same-for-all-requires
     loop-holds
-    add-four-at
-    sub-four-at
-    four-at-requires
     mul-same-for-all
     element-copy-out-same-for-all
     same-for-all-requires-2
+    add-four-at
+    sub-four-at
+    four-at-requires
     add-products-requires
-    add-products-requires-2
     add-i
     loop-less
     loop-again

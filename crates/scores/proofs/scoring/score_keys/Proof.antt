@@ -9,16 +9,22 @@ use Rattle.scores.proofs.scoring.score_keys.Statement.{statement}
 use Rattle.scores.proofs.scoring.score_keys.Tie as tie
 
 abbrev Inv-loop : tie.InvT-loop
-Inv-loop chroma squares sums scores₀ k₀ scores k = (k ≤ 24) × Filled (quarter sums) scores₀ scores k
+Inv-loop chroma sums scores₀ k₀ scores k = (k ≤ 24) × Filled (quarter sums) scores₀ scores k
 
 abbrev μ-loop : tie.MeasureT-loop
-μ-loop chroma squares sums scores₀ k₀ scores k = 24 - k
+μ-loop chroma sums scores₀ k₀ scores k = 24 - k
+
+mean-requires : tie.Need-mean-requires Inv-loop μ-loop
+mean-requires c κs = search needs
 
 deviations-requires : tie.Need-deviations-requires Inv-loop μ-loop
 deviations-requires c κs = search needs
 
 energy-requires : tie.Need-energy-requires Inv-loop μ-loop
 energy-requires c κs = search needs
+
+divisors-requires : tie.Need-divisors-requires Inv-loop μ-loop
+divisors-requires c κs = search needs
 
 sum-mode-requires : tie.Need-sum-mode-requires Inv-loop μ-loop
 sum-mode-requires c κs = search needs
@@ -59,11 +65,13 @@ loop-again c = (omega arith, filled-more _ _ _ (c .before .before .loop .k) (c .
 returns : tie.Need-returns Inv-loop μ-loop
 returns c =
     let minor = c .before .before in
-    let major = minor .before .before in
-    let squares = major .before .before in
+    let major = minor .before .before .before in
+    let divided = major .before .before .before in
+    let squares = divided .before in
     let away = squares .before .before in
+    let start = away .before .before in
     filled-whole _ _ _ (c .before .loop .k) 24 (c .before .loop .inv .1) (omega arith) refl
-    ∙ scored (away .before .args .chroma .now) (away .deviations .ensures) (squares .energy .ensures) (major .sum-mode .ensures) (minor .sum-mode2 .ensures)
+    ∙ scored (start .args .chroma .now) (away .before .mean .ensures) (away .deviations .ensures) (squares .energy .ensures) (divided .divisors .ensures) (major .sum-mode .ensures) (minor .sum-mode2 .ensures)
 
 pub score-keys-spec : {M : Type 1} → statement M
 score-keys-spec =
@@ -71,8 +79,10 @@ score-keys-spec =
     (tie.spec
     Inv-loop
     μ-loop
+    mean-requires
     deviations-requires
     energy-requires
+    divisors-requires
     sum-mode-requires
     sum-mode-requires-2
     loop-holds

@@ -11,23 +11,26 @@ use Rattle.scores.proofs.scoring.sum_mode.Statement.{statement}
 use Rattle.scores.proofs.scoring.sum_mode.Tie as tie
 
 abbrev Inv-loop : tie.InvT-loop
-Inv-loop away energy mode sums₀ p₀ sums p = (p ≤ 4) × (turns (modeTurn away energy mode) (4 - p) p sums ≡ modeSums away energy mode)
+Inv-loop away divisors mode sums₀ p₀ sums p = (p ≤ 4) × (turns (modeTurn away divisors mode) (4 - p) p sums ≡ modeSums away divisors mode)
 
 abbrev μ-loop : tie.MeasureT-loop
-μ-loop away energy mode sums₀ p₀ sums p = 4 - p
+μ-loop away divisors mode sums₀ p₀ sums p = 4 - p
 
 loop-holds : tie.Need-loop-holds Inv-loop μ-loop
 unfolding ofBits modeSums
 loop-holds c = (omega arith, turns-start _ _ _)
 
-mul-wheel-at : tie.Need-mul-wheel-at Inv-loop μ-loop
-mul-wheel-at c = search needs
+mul-row : tie.Need-mul-row Inv-loop μ-loop
+mul-row c = search needs
 
-add-wheel-at : tie.Need-add-wheel-at Inv-loop μ-loop
-add-wheel-at c = search needs
+add-row : tie.Need-add-row Inv-loop μ-loop
+add-row c = search needs
 
 wheel-at-requires : tie.Need-wheel-at-requires Inv-loop μ-loop
 wheel-at-requires c κs = search needs
+
+divisors-at-requires : tie.Need-divisors-at-requires Inv-loop μ-loop
+divisors-at-requires c κs = search needs
 
 correlations-requires : tie.Need-correlations-requires Inv-loop μ-loop
 correlations-requires c κs = search needs
@@ -44,10 +47,12 @@ loop-less c = search needs
 loop-again : tie.Need-loop-again Inv-loop μ-loop
 unfolding modeTurn
 loop-again c =
-    let turn = c .before .before .before .before .before .before .before in (
+    let turned = c .before .before .before in
+    let picked = turned .before .before .before in
+    let turn = picked .before .before .before in (
       omega arith,
-      turns-again _ 4 (turn .loop .p) (turn .loop .inv .1) (c .before .before .before .before .before .before .loop-test .taken)
-          (rw (c .add-twelve .ensures, c .before .before .before .correlations .ensures, c .before .before .before .before .before .wheel-at .ensures)),
+      turns-again _ 4 (turn .loop .p) (turn .loop .inv .1) (picked .before .before .loop-test .taken)
+          (rw (c .add-twelve .ensures, turned .correlations .ensures, picked .divisors-at .ensures, picked .before .wheel-at .ensures)),
     )
 
 returns : tie.Need-returns Inv-loop μ-loop
@@ -60,9 +65,10 @@ sum-mode-spec =
     Inv-loop
     μ-loop
     loop-holds
-    mul-wheel-at
-    add-wheel-at
+    mul-row
+    add-row
     wheel-at-requires
+    divisors-at-requires
     correlations-requires
     add-twelve-requires
     add-p

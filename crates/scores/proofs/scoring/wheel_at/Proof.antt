@@ -1,21 +1,19 @@
--- The code's table of profiles is the definition's.
+-- The callees' definitions, put together.
 use borrow.Author.Needs.{needs}
-use Rattle.scores.specs.Profiles.{profiles, profileAt}
 use Rattle.scores.proofs.scoring.wheel_at.Statement.{statement}
 use Rattle.scores.proofs.scoring.wheel_at.Tie as tie
 
-mul-profile : tie.Need-mul-profile
-mul-profile c = search needs
+profile-at-requires : tie.Need-profile-at-requires
+profile-at-requires c κs = search needs
 
-array-copy-out-profile : tie.Need-array-copy-out-profile
-array-copy-out-profile c = search needs
+mean-at-requires : tie.Need-mean-at-requires
+mean-at-requires c κs = search needs
 
 wheel-requires : tie.Need-wheel-requires
 wheel-requires c κs = search needs
 
 returns : tie.Need-returns
-unfolding profileAt profiles
-returns c = c .wheel .ensures
+returns c = rw (c .wheel .ensures, c .before .mean-at .ensures, c .before .before .before .profile-at .ensures)
 
 pub wheel-at-spec : {M : Type 1} → statement M
-wheel-at-spec = tie.close (tie.spec mul-profile array-copy-out-profile wheel-requires returns)
+wheel-at-spec = tie.close (tie.spec profile-at-requires mean-at-requires wheel-requires returns)
