@@ -1,4 +1,5 @@
-// Deviations of twelve values from their mean, what all correlations with them share.
+// Deviations of twelve values from their mean, what all correlations with them share. A profile's mean is
+// a constant, so the mean is told.
 ghost use mathlib.Core.Path.{_≡_};
 ghost use Rattle.correlations.specs.Correlation.{meanOf};
 ghost use Rattle.correlations.specs.inside.Deviations.{deviationsOf, deviationEnergy, wheelOf};

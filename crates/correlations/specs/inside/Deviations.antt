@@ -8,7 +8,7 @@ use Rattle.laws.specs.Front.{list}
 use Rattle.laws.specs.Values.{plusZero}
 use Rattle.correlations.specs.Correlation.{deviation}
 
--- the deviations from the mean
+-- the deviations from a mean
 unfoldable pub deviationsOf : List Float → Float → List Float
 deviationsOf values mean = list (deviation values mean) 12
 
