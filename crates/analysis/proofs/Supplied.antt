@@ -39,7 +39,7 @@ supplied c l positions note e =
       ready = ready c (hasty s) (anyOf tests) (l .frames) positions note (omega (arith, rows, p .many)) e;
       work = omega (arith, work, p .many);
       prepared = record {
-        ready = record { timed = omega arith; valued = omega arith; centres = there .0; keys = there .1; confidences = there .2 };
+        ready = record { timed = omega arith; valued = omega arith; centres = there .0; keys = there .1; confidences = there .2; shapeless = there .3 };
         room = room-within (l .segments) (windowsOf span) (omega (arith, few, segments));
         one = room-within (l .segments) 1 (omega (arith, some, segments));
       };

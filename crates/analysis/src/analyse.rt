@@ -36,15 +36,16 @@ pub fn analyse(
     middles: &mut [f64],
     numbers: &mut [u8],
     certainties: &mut [f32],
+    shapeless: &mut [u8],
     starts: &mut [f64],
     ends: &mut [f64],
     keys: &mut [u8],
     confidences: &mut [f32],
 ) -> AnalyseResult
-    ensures { λ r. ⌜ analyseOutcome r (lentAll (centres .exit) (values .exit) (energies .exit) (work .exit) (middles .exit) (numbers .exit) (certainties .exit) (starts .exit) (ends .exit) (keys .exit) (confidences .exit)) ≡ analysed (given settings head (samples .entry) (window .entry) (coefficients .entry) (weights .entry) (lengths .entry) (qcoefficients .entry) (qwindows .entry)) (lentAll (centres .entry) (values .entry) (energies .entry) (work .entry) (middles .entry) (numbers .entry) (certainties .entry) (starts .entry) (ends .entry) (keys .entry) (confidences .entry)) ⌝ }
+    ensures { λ r. ⌜ analyseOutcome r (lentAll (centres .exit) (values .exit) (energies .exit) (work .exit) (middles .exit) (numbers .exit) (certainties .exit) (shapeless .exit) (starts .exit) (ends .exit) (keys .exit) (confidences .exit)) ≡ analysed (given settings head (samples .entry) (window .entry) (coefficients .entry) (weights .entry) (lengths .entry) (qcoefficients .entry) (qwindows .entry)) (lentAll (centres .entry) (values .entry) (energies .entry) (work .entry) (middles .entry) (numbers .entry) (certainties .entry) (shapeless .entry) (starts .entry) (ends .entry) (keys .entry) (confidences .entry)) ⌝ }
 {
     let rows = fewest(centres.len(), values.len(), energies.len());
-    let estimates = estimate_room(middles, numbers, certainties);
+    let estimates = estimate_room(middles, numbers, certainties, shapeless);
     let segments = segment_room(starts, ends, keys, confidences);
     let few = rows_lack(settings, samples.len(), estimates, segments);
     let room = frame_room(rows, work.len());
@@ -82,6 +83,7 @@ pub fn analyse(
             middles,
             numbers,
             certainties,
+            shapeless,
             starts,
             ends,
             keys,

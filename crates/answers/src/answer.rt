@@ -5,9 +5,11 @@ ghost use Rattle.answers.specs.Answer.{answerOf, keyless, withAlternate}
 use alternates::alternate::Alternate;
 use keys::Key;
 use keys::numbers::key_number;
+use numbers::flags::one_if;
 use verdicts::verdict::Verdict;
 
-// Refusal or 0, the position that 9 names, keys by number (24 for a missing one), how many rows are written, chroma.
+// Refusal or 0, the position that 9 names, keys by number (24 for a missing one), 1 where the chroma has no shape, how
+// many rows are written, chroma.
 #[repr(C)]
 pub struct AnalyseResult {
     pub refusal: u32,
@@ -17,6 +19,7 @@ pub struct AnalyseResult {
     pub alternate: u32,
     pub coverage: f32,
     pub confidence: f32,
+    pub shapeless: u32,
     pub frames: u64,
     pub estimates: u64,
     pub segments: u64,
@@ -42,6 +45,7 @@ pub fn keyless(refusal: u32, position: usize, frames: usize, estimates: usize) -
         alternate: 24,
         coverage: 0.0,
         confidence: 0.0,
+        shapeless: 0,
         frames: frames as u64,
         estimates: estimates as u64,
         segments: 0,
@@ -57,7 +61,7 @@ fn with_key(
     alternate: u32,
     coverage: f32,
 ) -> AnalyseResult
-    ensures { λ r. ⌜ r ≡ answerOf 0 0 (keyNumber reported) alternate coverage (verdict .confidence) counts (verdict .chroma) ⌝ }
+    ensures { λ r. ⌜ r ≡ answerOf 0 0 (keyNumber reported) alternate coverage (verdict .confidence) (verdict .shapeless) counts (verdict .chroma) ⌝ }
 {
     let key = key_number(reported) as u32;
     let chroma = verdict.chroma;
@@ -69,6 +73,7 @@ fn with_key(
         alternate,
         coverage,
         confidence: verdict.confidence,
+        shapeless: one_if(verdict.shapeless) as u32,
         frames: counts.frames as u64,
         estimates: counts.estimates as u64,
         segments: counts.segments as u64,

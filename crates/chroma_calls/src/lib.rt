@@ -8,16 +8,19 @@ use key_choice::classify::Classified;
 use key_choice::classify::classify_key;
 use key_choice::classify::key_confidence;
 use keys::numbers::key_number;
+use numbers::flags::one_if;
 use numbers::twelve::twelve_values;
 use scores::scoring::score_keys;
 
-// The refusal's number, or 0.
+// The refusal's number, or 0; 1 where the chroma has no shape, else 0.
 #[repr(C)]
 pub struct ScoresResult {
     pub refusal: u32,
+    pub shapeless: u32,
 }
 
-// The refusal's number, or 0; the key's number, or 24; its score, the second one's, and the confidence.
+// The refusal's number, or 0; the key's number, or 24; its score, the second one's, and the confidence; 1 where the
+// chroma has no shape, else 0.
 #[repr(C)]
 pub struct KeyResult {
     pub refusal: u32,
@@ -25,6 +28,7 @@ pub struct KeyResult {
     pub best: f32,
     pub second: f32,
     pub confidence: f32,
+    pub shapeless: u32,
 }
 
 // Writes the scores from the front of `out`.
@@ -52,6 +56,7 @@ fn judge(classified: Classified) -> KeyResult
         best,
         second,
         confidence: key_confidence(best, second),
+        shapeless: one_if(classified.shapeless) as u32,
     }
 }
 
@@ -61,12 +66,19 @@ pub fn scores_of_chroma(chroma: &[f32], out: &mut [f32]) -> ScoresResult
     ensures { λ r. ⌜ scoresOutcome r (now (out .exit)) ≡ scoresCall (now (chroma .entry)) (now (out .entry)) ⌝ }
 {
     if (chroma.len() != 12) | (out.len() < 24) {
-        return ScoresResult { refusal: 18 };
+        return ScoresResult {
+            refusal: 18,
+            shapeless: 0,
+        };
     }
     let values = twelve_values(chroma);
-    let scores = score_keys(&values);
+    let scored = score_keys(&values);
+    let scores = scored.scores;
     write_scores(&scores, out);
-    ScoresResult { refusal: 0 }
+    ScoresResult {
+        refusal: 0,
+        shapeless: one_if(scored.shapeless) as u32,
+    }
 }
 
 // The key of a chroma, the highest and the second score and the confidence. Refusal 18: a chroma not of
@@ -81,6 +93,7 @@ pub fn key_of_chroma(chroma: &[f32]) -> KeyResult
             best: 0.0,
             second: 0.0,
             confidence: 0.0,
+            shapeless: 0,
         };
     }
     let values = twelve_values(chroma);

@@ -11,7 +11,7 @@ use Rattle.laws.specs.Values.{plusZero}
 use Rattle.laws.proofs.Turns.{turns-part}
 use Rattle.laws.proofs.Front.{getD-list, list-same}
 use Rattle.correlations.specs.declared.lanes.Four.{Four}
-use Rattle.correlations.specs.Correlation.{meanOf, deviation, rotated, summed, sumsOf, quotientOf, correlationOf}
+use Rattle.correlations.specs.Correlation.{meanOf, deviation, rotated, summed, sumsOf, quotientOf, correlationOf, heldUpAt}
 use Rattle.correlations.specs.inside.Deviations.{deviationsOf, deviationEnergyTurn, deviationEnergy, backward, wheelOf}
 use Rattle.correlations.specs.inside.Divisors.{energyAt, divisorOf}
 use Rattle.correlations.specs.inside.Lanes.{four, alike, productAdded, addedFour, lanesTurn, lanesOf, twelve, productsOf, turnedOf}
@@ -78,7 +78,7 @@ module _ (chroma profile : List Float) (mean profileMean : Float) where
 
 -- the correlations at all roots, where each divisor is that of its root
 pub turned-is : (chroma profile divisors : List Float)
-    → ((root : ℕ) → root < 12 → getD divisors root nan ≡ divisorOf (deviationEnergy (deviationsOf chroma (meanOf chroma))) (energyAt profile (meanOf profile) root))
+    → ((root : ℕ) → root < 12 → getD divisors root nan ≡ divisorOf (deviationEnergy (deviationsOf chroma (meanOf chroma))) (energyAt profile (meanOf profile) root) .value)
     → turnedOf (deviationsOf chroma (meanOf chroma)) (wheelOf profile (meanOf profile)) divisors ≡ list (correlationOf chroma profile) 12
 unfolding turnedOf correlationOf sumsOf quotientOf divisorOf energyAt
 turned-is chroma profile divisors d =
@@ -86,3 +86,8 @@ turned-is chroma profile divisors d =
     list-same _ _ 12
     (λ (root : ℕ) (h : root < 12).
     rw (ap (λ (l : List Float). getD l root nan) sums ∙ getD-list (productsAt chroma profile (meanOf chroma) (meanOf profile)) 12 root nan h, d root h, energy-is chroma (meanOf chroma)))
+
+-- whether a correlation was held up, where the energies are those of its chroma and profile
+pub held-up-is : (chroma profile : List Float) (root : ℕ) → heldUpAt chroma profile root ≡ divisorOf (deviationEnergy (deviationsOf chroma (meanOf chroma))) (energyAt profile (meanOf profile) root) .«held_up»
+unfolding heldUpAt sumsOf divisorOf energyAt
+held-up-is chroma profile root = rw (energy-is chroma (meanOf chroma))

@@ -1,8 +1,9 @@
--- The correlation of a chroma with a key profile, written from the Rust's `correlation`. Definitions only.
+-- The correlation of a chroma with a key profile, written from the Rust's `correlation`, and whether its divisor was held up. Definitions only.
 use Prim.Native.Nat.{ℕ, _+_, _-_, _%_}
+use mathlib.Core.Bool.{Bool, not}
 use mathlib.Core.List.{List}
 use lib.ListN.{getD}
-use lib.Ieee.{Float, nan, binary32, ofBits, add, sub, mul, div}
+use lib.Ieee.{Float, nan, binary32, ofBits, add, sub, mul, div, le}
 use Rattle.laws.specs.Turns.{turns}
 use Rattle.laws.specs.Values.{plusZero, epsilon}
 use Rattle.laws.specs.Pick.{maximumNumber}
@@ -38,10 +39,22 @@ sumsOf chroma profile root mean profileMean =
     let b : ℕ → Float = λ (i : ℕ). deviation profile profileMean (rotated root i) in
     record { products = summed a b; «chroma_energy» = summed a a; «profile_energy» = summed b b }
 
--- the products over the root of both squares, which is held up by epsilon
+-- the root of both squares
+abbrev pub energyRoot : Sums → Float
+energyRoot s = rootOf (mul binary32 (s .«chroma_energy») (s .«profile_energy»))
+
+-- the products over that root, which is held up by epsilon
 unfoldable pub quotientOf : Sums → Float
-quotientOf s = div binary32 (s .products) (maximumNumber (rootOf (mul binary32 (s .«chroma_energy») (s .«profile_energy»))) epsilon)
+quotientOf s = div binary32 (s .products) (maximumNumber (energyRoot s) epsilon)
 
 -- the correlation of a chroma with a profile at a root
 unfoldable pub correlationOf : List Float → List Float → ℕ → Float
 correlationOf chroma profile root = quotientOf (sumsOf chroma profile root (meanOf chroma) (meanOf profile))
+
+-- epsilon takes the place of such a root: it is below epsilon, or a NaN
+unfoldable pub heldUp : Float → Bool
+heldUp root = not (le epsilon root)
+
+-- it did so where a chroma is correlated with a profile at a root
+unfoldable pub heldUpAt : List Float → List Float → ℕ → Bool
+heldUpAt chroma profile root = heldUp (energyRoot (sumsOf chroma profile root (meanOf chroma) (meanOf profile)))

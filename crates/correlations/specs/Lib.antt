@@ -1,2 +1,3 @@
 pub mod Correlation
+pub mod HeldUp
 pub mod inside

@@ -6,11 +6,21 @@ use crate::lanes::sum_lanes;
 use numbers::single::larger;
 use roots::square_root;
 
+// What a correlation's products are divided by, and whether 2^-23 took the place of a smaller number.
+pub struct Divisor {
+    pub value: f32,
+    pub held_up: bool,
+}
+
 // What the Rust's `correlation` divides by, from the energies of chroma and profile: held up by 2^-23.
-pub fn divisor(chroma: f32, profile: f32) -> f32
+pub fn divisor_of(chroma: f32, profile: f32) -> Divisor
     ensures { λ r. ⌜ r ≡ divisorOf chroma profile ⌝ }
 {
-    larger(square_root(chroma * profile), 0.00000011920929)
+    let root = square_root(chroma * profile);
+    Divisor {
+        value: larger(root, 0.00000011920929),
+        held_up: !(0.00000011920929 <= root),
+    }
 }
 
 // The sums of products at all twelve roots, from the chroma's deviations and a profile's wheel.

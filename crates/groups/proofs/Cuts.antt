@@ -10,21 +10,31 @@ use Rattle.laws.specs.Turns.{turns}
 use Rattle.laws.specs.Values.{plusZero}
 use Rattle.laws.proofs.Turns.{turns-start, turns-again, turns-end}
 use Rattle.laws.proofs.Front.{length-list, getD-list}
-use Rattle.timeline.specs.Estimates.{EstimateRows, noEstimate}
-use Rattle.timeline.specs.inside.Estimates.{Found, estimateIn, estimatesIn}
+use Rattle.timeline.specs.Estimates.{noEstimate}
+use Rattle.timeline.specs.inside.Estimates.{Columns, estimateIn, estimatesIn, Found}
 use Rattle.timeline.specs.Segments.{SegmentRows, holdingSegments}
 use Rattle.timeline.specs.inside.Segments.{Room, filledRows, standing, putSegment}
 use Rattle.timeline.specs.declared.estimate.Estimate.{Estimate}
 use Rattle.timeline.specs.declared.segment.Segment.{Segment}
 use Rattle.timeline.proofs.Segments.{Holds, holds-start, holds-more, holds-all}
 use Rattle.splits.specs.Splits.{splits, borderOf}
+use Rattle.splits.specs.inside.Columns.{splitsIn, borderIn}
 use Rattle.groups.specs.Groups.{between, estimateAt, groupsOf}
 use Rattle.groups.specs.inside.Written.{grouped}
 use Rattle.groups.proofs.Loop.{groupFrom, Cutting, cutting, cutTurn, closed, groups-loop}
 use Rattle.groups.proofs.Parts.{group-in-rows}
 
+-- what is read in the columns of two windows is what their estimates say
+split-read : (threshold : Float) (rows : Columns) (i j : ℕ) → splitsIn threshold (rows .keys) (rows .confidences) i j ≡ splits threshold (estimateIn rows i) (estimateIn rows j)
+unfolding splitsIn splits estimateIn
+split-read threshold rows i j = refl
+
+border-read : (rows : Columns) (i j : ℕ) → borderIn (rows .centres) i j ≡ borderOf (estimateIn rows i) (estimateIn rows j)
+unfolding borderIn borderOf estimateIn
+border-read rows i j = refl
+
 -- Cutting has come to estimate j: n segments are cut off and stand in the rows, and a group is being gathered.
-pub record Cut (rows : EstimateRows) (threshold : Float) (found : ℕ) (before now : SegmentRows) (from : ℕ) (start : Float) (n j : ℕ) : Type 0 where
+pub record Cut (rows : Columns) (threshold : Float) (found : ℕ) (before now : SegmentRows) (from : ℕ) (start : Float) (n j : ℕ) : Type 0 where
   pub some : 0 < found
   pub there : Found rows found
   pub room : Room before found
@@ -36,7 +46,7 @@ pub record Cut (rows : EstimateRows) (threshold : Float) (found : ℕ) (before n
   pub ahead : turns (cutTurn threshold (estimatesIn rows found)) (found - 1 - j) j (cutting done from start) ≡ turns (cutTurn threshold (estimatesIn rows found)) (found - 1) 0 (cutting [] 0 plusZero)
   pub holds : Holds done before now
 
-pub cut-start : {rows : EstimateRows} {threshold : Float} {found : ℕ} {before : SegmentRows} → 0 < found → Found rows found → Room before found → Cut rows threshold found before before 0 plusZero 0 0
+pub cut-start : {rows : Columns} {threshold : Float} {found : ℕ} {before : SegmentRows} → 0 < found → Found rows found → Room before found → Cut rows threshold found before before 0 plusZero 0 0
 cut-start {before = before} h there room =
     record {
       some = h;
@@ -51,7 +61,7 @@ cut-start {before = before} h there room =
       holds = holds-start before;
     }
 
-module _ {rows : EstimateRows} {threshold : Float} {found : ℕ} {before now : SegmentRows} {from : ℕ} {start : Float} {n j : ℕ} (cut : Cut rows threshold found before now from start n j) where
+module _ {rows : Columns} {threshold : Float} {found : ℕ} {before now : SegmentRows} {from : ℕ} {start : Float} {n j : ℕ} (cut : Cut rows threshold found before now from start n j) where
   abbrev estimates : List Estimate
   estimates = estimatesIn rows found
 
@@ -65,11 +75,11 @@ module _ {rows : EstimateRows} {threshold : Float} {found : ℕ} {before now : S
       (cutting (cut .done ++ (groupFrom estimates from (j + 1) start (borderOf (estimateIn rows j) (estimateIn rows (j + 1))) ∷ [])) (j + 1) (borderOf (estimateIn rows j) (estimateIn rows (j + 1))))
       (cutting (cut .done) from start)
 
-  turn-is : j < found - 1 → (b : Bool) → splits threshold (estimateIn rows j) (estimateIn rows (j + 1)) ≡ b → cutTurn threshold estimates j (cutting (cut .done) from start) ≡ turned b
+  turn-is : j < found - 1 → (b : Bool) → splitsIn threshold (rows .keys) (rows .confidences) j (j + 1) ≡ b → cutTurn threshold estimates j (cutting (cut .done) from start) ≡ turned b
   unfolding cutTurn
-  turn-is h b e = rw (read j (omega arith), read (j + 1) (omega arith), e)
+  turn-is h b e = rw (read j (omega arith), read (j + 1) (omega arith), sym (split-read threshold rows j (j + 1)) ∙ e)
 
-  pub cut-on : j < found - 1 → splits threshold (estimateIn rows j) (estimateIn rows (j + 1)) ≡ false → Cut rows threshold found before now from start n (j + 1)
+  pub cut-on : j < found - 1 → splitsIn threshold (rows .keys) (rows .confidences) j (j + 1) ≡ false → Cut rows threshold found before now from start n (j + 1)
   cut-on h e =
       record {
         some = cut .some;
@@ -101,9 +111,10 @@ module _ {rows : EstimateRows} {threshold : Float} {found : ℕ} {before now : S
       subst (Holds _ before) (sym (a ∙ ap (λ (s : Segment). putSegment s n now) (group-in-rows rows found (cut .there) from to start end h k)))
       (holds-more (cut .done) (groupFrom estimates from to start end) before now n (cut .count) room-left (cut .holds))
 
-  pub cut-off : {border : Float} {after : SegmentRows} → j < found - 1 → splits threshold (estimateIn rows j) (estimateIn rows (j + 1)) ≡ true → border ≡ borderOf (estimateIn rows j) (estimateIn rows (j + 1))
+  pub cut-off : {border : Float} {after : SegmentRows} → j < found - 1 → splitsIn threshold (rows .keys) (rows .confidences) j (j + 1) ≡ true → border ≡ borderIn (rows .centres) j (j + 1)
       → after ≡ putSegment (grouped start border (between (rows .keys) from (j + 1)) (between (rows .confidences) from (j + 1))) n now → Cut rows threshold found before after (j + 1) border (n + 1) (j + 1)
-  cut-off {border} {after} h e b a =
+  cut-off {border} {after} h e read-off a =
+      let b = read-off ∙ border-read rows j (j + 1) in
       subst (λ (x : Float). Cut rows threshold found before after (j + 1) x (n + 1) (j + 1)) (sym b)
       (record {
         some = cut .some;

@@ -10,8 +10,7 @@ use Rattle.laws.specs.Front.{list}
 use Rattle.laws.proofs.Front.{length-list, list-same, map-list, front-own}
 use Rattle.keys.specs.Numbers.{keyNumber}
 use Rattle.keys.proofs.Placed.{numbers-are-keys}
-use Rattle.timeline.specs.Estimates.{EstimateRows}
-use Rattle.timeline.specs.inside.Estimates.{Numbered, Found, estimateIn, estimatesIn}
+use Rattle.timeline.specs.inside.Estimates.{Columns, estimateIn, estimatesIn, Numbered, Found}
 use Rattle.timeline.specs.declared.estimate.Estimate.{Estimate}
 use Rattle.groups.specs.Groups.{border, between, numbersOf, groupOf}
 use Rattle.groups.specs.inside.Written.{grouped}
@@ -32,14 +31,14 @@ part-of-rows f g xs d n from to same h k l =
     ap (λ (ys : List _). between ys from to) (front-own xs n d l) ∙ part-of-first (list own n) (drop (length (list own n)) xs) from to h long ∙ ap (λ (ys : List _). between ys from to) entries
 
 -- a column of a part is that part of the column
-map-part : {A B : Type 0} (f : A → B) (n k : ℕ) (xs : List A) → take n (drop k (map f xs)) ≡ map f (take n (drop k xs))
+pub map-part : {A B : Type 0} (f : A → B) (n k : ℕ) (xs : List A) → take n (drop k (map f xs)) ≡ map f (take n (drop k xs))
 map-part f zero k xs = refl
 map-part f (suc n) zero [] = refl
 map-part f (suc n) zero (x ∷ xs) = ap (λ (l : List _). f x ∷ l) (map-part f n zero xs)
 map-part f (suc n) (suc k) [] = refl
 map-part f (suc n) (suc k) (x ∷ xs) = map-part f (suc n) k xs
 
-module _ (rows : EstimateRows) (count : ℕ) (there : Found rows count) where
+module _ (rows : Columns) (count : ℕ) (there : Found rows count) where
   -- a group's segment, from the slices
   pub group-in-rows : (from to : ℕ) (start end : Float) → from ≤ to → to ≤ count → grouped start end (between (rows .keys) from to) (between (rows .confidences) from to) ≡ groupOf (estimatesIn rows count) (border from start) (border to end)
   unfolding groupOf grouped estimateIn

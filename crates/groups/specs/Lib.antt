@@ -1,3 +1,4 @@
 pub mod Groups
+pub mod Plain
 pub mod Tiled
 pub mod inside

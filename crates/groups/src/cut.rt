@@ -3,8 +3,7 @@ ghost use mathlib.Core.Path.{_≡_};
 ghost use Prim.Native.Nat.{_+_, _<_, _≤_, _^_};
 ghost use lib.ListN.{length};
 ghost use Rattle.numbers.specs.Sum.{sumOf};
-ghost use Rattle.timeline.specs.Estimates.{lentEstimates};
-ghost use Rattle.timeline.specs.inside.Estimates.{Numbered, Found, estimatesIn};
+ghost use Rattle.timeline.specs.inside.Estimates.{lentColumns, Numbered, Found, estimatesIn};
 ghost use Rattle.timeline.specs.Segments.{lentSegments};
 ghost use Rattle.timeline.specs.inside.Segments.{Room, putSegment, filledRows, standing};
 ghost use Rattle.groups.specs.Groups.{meanConfidence, groupsOf};
@@ -111,8 +110,8 @@ pub fn cut_groups(
     keys: &mut [u8],
     confidences: &mut [f32],
 ) -> usize
-    requires { ⌜ (0 < found) × Found (lentEstimates middles numbers certainties) found × Room (lentSegments starts ends keys confidences) found ⌝ }
-    ensures { λ r. ⌜ filledRows r (lentSegments (starts .exit) (ends .exit) (keys .exit) (confidences .exit)) ≡ standing (groupsOf threshold duration (estimatesIn (lentEstimates (middles .entry) (numbers .entry) (certainties .entry)) found)) (lentSegments (starts .entry) (ends .entry) (keys .entry) (confidences .entry)) ⌝ }
+    requires { ⌜ (0 < found) × Found (lentColumns middles numbers certainties) found × Room (lentSegments starts ends keys confidences) found ⌝ }
+    ensures { λ r. ⌜ filledRows r (lentSegments (starts .exit) (ends .exit) (keys .exit) (confidences .exit)) ≡ standing (groupsOf threshold duration (estimatesIn (lentColumns (middles .entry) (numbers .entry) (certainties .entry)) found)) (lentSegments (starts .entry) (ends .entry) (keys .entry) (confidences .entry)) ⌝ }
 {
     let last = found - 1;
     let mut from = 0;
@@ -121,8 +120,8 @@ pub fn cut_groups(
     let mut j = 0;
     while j < last {
         let next = j + 1;
-        if is_split(threshold, j, next, middles, numbers, certainties) {
-            let end = border_in_rows(j, next, middles, numbers, certainties);
+        if is_split(threshold, j, next, numbers, certainties) {
+            let end = border_in_rows(j, next, middles);
             let group = group_of(from, next, start, end);
             write_group(
                 group,

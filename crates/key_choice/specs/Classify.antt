@@ -10,6 +10,7 @@ use Rattle.keys.specs.Numbers.{tonicNumber, areRelativeKeys}
 use Rattle.key_choice.specs.declared.places.Places.{Places}
 use Rattle.key_choice.specs.declared.classify.Classified.{Classified}
 use Rattle.scores.specs.Scores.{scoresOf}
+use Rattle.scores.specs.Shape.{shapelessOf}
 use Rattle.key_choice.specs.Places.{placesOf}
 
 -- the chroma at a key's tonic
@@ -34,9 +35,9 @@ confidenceOf best second = cond (lt epsilon (magnitudeOf best)) (clampedTo plusZ
 abbrev pub certaintyOf : Classified → Float
 certaintyOf c = confidenceOf (c .best) (c .second)
 
--- the chosen key with the scores of both places
+-- the chosen key with the scores of both places, and whether the chroma has no shape
 abbrev pub classified : List Float → List Float → Places → Classified
-classified chroma scores p = record { key = chosenKey chroma p; best = p .first .score; second = p .second .score; scores = scores }
+classified chroma scores p = record { key = chosenKey chroma p; best = p .first .score; second = p .second .score; scores = scores; shapeless = shapelessOf chroma }
 
 -- classify_key: all that is told of a chroma
 unfoldable pub classifiedOf : List Float → Classified

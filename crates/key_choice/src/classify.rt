@@ -10,12 +10,13 @@ use numbers::single::clamp;
 use numbers::single::magnitude;
 use scores::scoring::score_keys;
 
-// The Rust's `(key, best, second, scores)`.
+// The Rust's `(key, best, second, scores)`, and whether the chroma has no shape.
 pub struct Classified {
     pub key: Key,
     pub best: f32,
     pub second: f32,
     pub scores: [f32; 24],
+    pub shapeless: bool,
 }
 
 // Whether the second key's tonic is heard above 1.2 times the first one's.
@@ -62,7 +63,8 @@ pub fn key_confidence(best: f32, second: f32) -> f32
 pub fn classify_key(chroma: &[f32; 12]) -> Classified
     ensures { λ r. ⌜ r ≡ classifiedOf (now (chroma .entry)) ⌝ }
 {
-    let scores = score_keys(chroma);
+    let scored = score_keys(chroma);
+    let scores = scored.scores;
     let places = find_places(&scores);
     let first = places.first;
     let second = places.second;
@@ -71,5 +73,6 @@ pub fn classify_key(chroma: &[f32; 12]) -> Classified
         best: first.score,
         second: second.score,
         scores,
+        shapeless: scored.shapeless,
     }
 }

@@ -1,8 +1,8 @@
 -- A test that passes at every number below a bound passes at each: so a table's rule is computed once and used at each entry.
 -- A loop that joins the test of i to what it knows so far has the invariant `sofar ≡ every test i`: `every-more` after a turn.
 use mathlib.Core.Logic.{inl, inr}
-use mathlib.Core.Path.{_≡_, sym, ap, subst, subst₂, _∙_}
-use mathlib.Core.Bool.{Bool, _&&_}
+use mathlib.Core.Path.{_≡_, refl, sym, ap, subst, subst₂, _∙_}
+use mathlib.Core.Bool.{Bool, true, false, _&&_, _||_}
 use mathlib.Core.List.{List, [], _∷_, _++_}
 use Prim.Native.Nat.{ℕ, zero, suc, _+_, _-_, _<_, _≤_}
 use native.Mathlib.Numerals.{add-one}
@@ -12,7 +12,9 @@ use lib.Dec.{T}
 use lib.ListN.{length, getD, length-append, List·getD-append}
 use lib.Seq.{getD-append-seam}
 use lib.Ieee.Fits.{and-l, and-r, and-i}
-use Rattle.laws.specs.Every.{every, everyPair}
+use Rattle.laws.specs.Every.{every, anyBelow, everyPair}
+use Rattle.laws.proofs.Order.{or-split}
+use Rattle.laws.proofs.Cases.{same-test}
 
 pub each : (test : ℕ → Bool) (n : ℕ) → T (every test n) → (k : ℕ) → k < n → T (test k)
 unfolding every
@@ -34,6 +36,42 @@ every-more test i e = ap (λ (b : Bool). b && test i) e ∙ rw (add-one, every)
 
 pub every-all : (test : ℕ → Bool) (i n : ℕ) {sofar : Bool} → sofar ≡ every test i → i ≡ n → sofar ≡ every test n
 every-all test i n e h = e ∙ ap (every test) h
+
+-- ---- any number below a bound
+pub any-more : (test : ℕ → Bool) (i : ℕ) {sofar : Bool} → sofar ≡ anyBelow test i → (sofar || test i) ≡ anyBelow test (i + 1)
+unfolding anyBelow
+any-more test i e = ap (λ (b : Bool). b || test i) e ∙ rw (add-one, anyBelow)
+
+first-passed : (a b : Bool) → T a → T (a || b)
+first-passed true b t = tt
+
+second-passed : (a b : Bool) → T b → T (a || b)
+second-passed true b t = tt
+second-passed false b t = t
+
+pub any-of : (test : ℕ → Bool) (n k : ℕ) → k < n → T (test k) → T (anyBelow test n)
+unfolding anyBelow
+any-of test zero k h t = absurd (not-suc-le-zero h)
+any-of test (suc n) k h t =
+    elim (eq-or-lt-of-le (le-of-suc-le-suc h)) [
+      | inl e ↦ second-passed (anyBelow test n) (test n) (subst (λ (j : ℕ). T (test j)) e t)
+      | inr l ↦ first-passed (anyBelow test n) (test n) (any-of test n k l t)
+    ]
+
+pub any-at : (test : ℕ → Bool) (n : ℕ) → T (anyBelow test n) → (k : ℕ) × (k < n) × T (test k)
+unfolding anyBelow
+any-at test (suc n) t =
+    elim (or-split (anyBelow test n) (test n) t) [
+      | inl s ↦ let found = any-at test n s in (found .0, omega (arith, found .1), found .2)
+      | inr s ↦ (n, omega arith, s)
+    ]
+
+-- two tests of which each passes wherever the other does, at some number of its own
+pub any-same : (f g : ℕ → Bool) (m n : ℕ) → ((i : ℕ) → i < m → T (f i) → T (anyBelow g n)) → ((i : ℕ) → i < n → T (g i) → T (anyBelow f m)) → anyBelow f m ≡ anyBelow g n
+any-same f g m n there back =
+    same-test (anyBelow f m) (anyBelow g n)
+    (λ (t : T (anyBelow f m)). let found = any-at f m t in there (found .0) (found .1) (found .2))
+    (λ (t : T (anyBelow g n)). let found = any-at g n t in back (found .0) (found .1) (found .2))
 
 -- what holds below n, and at n, holds below n + 1
 pub and-last : (P : ℕ → Type 0) (n : ℕ) → ((j : ℕ) → j < n → P j) → P n → (j : ℕ) → j < suc n → P j

@@ -1,6 +1,6 @@
--- A test of every number below a bound, which the checker computes, of every entry of a list, and of every entry with the next. Definitions only.
+-- A test of every number below a bound, which the checker computes, of any such number, of every entry of a list, and of every entry with the next. Definitions only.
 use Prim.Native.Nat.{ℕ, zero, suc, _+_, _-_}
-use mathlib.Core.Bool.{Bool, true, _&&_}
+use mathlib.Core.Bool.{Bool, true, false, _&&_, _||_}
 use mathlib.Core.List.{List}
 use lib.ListN.{length, getD}
 
@@ -8,6 +8,11 @@ use lib.ListN.{length, getD}
 unfoldable pub every : (ℕ → Bool) → ℕ → Bool
 every test zero = true
 every test (suc n) = every test n && test n
+
+-- the test passes for one of the numbers 0 to n - 1 at least
+unfoldable pub anyBelow : (ℕ → Bool) → ℕ → Bool
+anyBelow test zero = false
+anyBelow test (suc n) = anyBelow test n || test n
 
 -- every entry of the list passes the test; d is read nowhere
 unfoldable pub everyEntry : {A : Type 0} → (A → Bool) → A → List A → Bool

@@ -24,13 +24,14 @@ pub fn analyse_frames(
     middles: &mut [f64],
     numbers: &mut [u8],
     certainties: &mut [f32],
+    shapeless: &mut [u8],
     starts: &mut [f64],
     ends: &mut [f64],
     keys: &mut [u8],
     confidences: &mut [f32],
 ) -> AnalyseResult
-    requires { ⌜ Stocked settings samples frames (lentAll centres values energies work middles numbers certainties starts ends keys confidences) ⌝ }
-    ensures { λ r. ⌜ analyseOutcome r (lentAll (centres .entry) (values .entry) (energies .entry) (work .exit) (middles .exit) (numbers .exit) (certainties .exit) (starts .exit) (ends .exit) (keys .exit) (confidences .exit)) ≡ loudAnalysed settings samples (framesIn (lentRows (centres .entry) (values .entry) (energies .entry)) frames) (lentAll (centres .entry) (values .entry) (energies .entry) (work .entry) (middles .entry) (numbers .entry) (certainties .entry) (starts .entry) (ends .entry) (keys .entry) (confidences .entry)) ⌝ }
+    requires { ⌜ Stocked settings samples frames (lentAll centres values energies work middles numbers certainties shapeless starts ends keys confidences) ⌝ }
+    ensures { λ r. ⌜ analyseOutcome r (lentAll (centres .entry) (values .entry) (energies .entry) (work .exit) (middles .exit) (numbers .exit) (certainties .exit) (shapeless .exit) (starts .exit) (ends .exit) (keys .exit) (confidences .exit)) ≡ loudAnalysed settings samples (framesIn (lentRows (centres .entry) (values .entry) (energies .entry)) frames) (lentAll (centres .entry) (values .entry) (energies .entry) (work .entry) (middles .entry) (numbers .entry) (certainties .entry) (shapeless .entry) (starts .entry) (ends .entry) (keys .entry) (confidences .entry)) ⌝ }
 {
     if frames == 0 {
         return keyless(0, 0, 0, 0);
@@ -50,6 +51,7 @@ pub fn analyse_frames(
         middles,
         numbers,
         certainties,
+        shapeless,
         starts,
         ends,
         keys,

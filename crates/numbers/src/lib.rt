@@ -2,5 +2,6 @@
 // and in the crate laws.
 pub mod counts;
 pub mod double;
+pub mod flags;
 pub mod single;
 pub mod twelve;

@@ -63,7 +63,7 @@ module _ (c : Call) (positions : ℕ) (l : Lent) {filled : Filled} {now : Rows} 
         work = omega (arith, left .few, supplied .work);
         prepared =
             record {
-              ready = record { timed = left .centres; valued = left .values; centres = ready .centres; keys = ready .keys; confidences = ready .confidences };
+              ready = record { timed = left .centres; valued = left .values; centres = ready .centres; keys = ready .keys; confidences = ready .confidences; shapeless = ready .shapeless };
               room = supplied .prepared .room;
               one = supplied .prepared .one;
             };

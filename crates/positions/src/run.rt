@@ -32,13 +32,14 @@ pub fn analyse_positions(
     middles: &mut [f64],
     numbers: &mut [u8],
     certainties: &mut [f32],
+    shapeless: &mut [u8],
     starts: &mut [f64],
     ends: &mut [f64],
     keys: &mut [u8],
     confidences: &mut [f32],
 ) -> AnalyseResult
-    requires { ⌜ Supplied (given settings head samples window coefficients weights lengths qcoefficients qwindows) positions (lentAll centres values energies work middles numbers certainties starts ends keys confidences) ⌝ }
-    ensures { λ r. ⌜ analyseOutcome r (lentAll (centres .exit) (values .exit) (energies .exit) (work .exit) (middles .exit) (numbers .exit) (certainties .exit) (starts .exit) (ends .exit) (keys .exit) (confidences .exit)) ≡ positionsAnalysed (given settings head (samples .entry) (window .entry) (coefficients .entry) (weights .entry) (lengths .entry) (qcoefficients .entry) (qwindows .entry)) positions (lentAll (centres .entry) (values .entry) (energies .entry) (work .entry) (middles .entry) (numbers .entry) (certainties .entry) (starts .entry) (ends .entry) (keys .entry) (confidences .entry)) ⌝ }
+    requires { ⌜ Supplied (given settings head samples window coefficients weights lengths qcoefficients qwindows) positions (lentAll centres values energies work middles numbers certainties shapeless starts ends keys confidences) ⌝ }
+    ensures { λ r. ⌜ analyseOutcome r (lentAll (centres .exit) (values .exit) (energies .exit) (work .exit) (middles .exit) (numbers .exit) (certainties .exit) (shapeless .exit) (starts .exit) (ends .exit) (keys .exit) (confidences .exit)) ≡ positionsAnalysed (given settings head (samples .entry) (window .entry) (coefficients .entry) (weights .entry) (lengths .entry) (qcoefficients .entry) (qwindows .entry)) positions (lentAll (centres .entry) (values .entry) (energies .entry) (work .entry) (middles .entry) (numbers .entry) (certainties .entry) (shapeless .entry) (starts .entry) (ends .entry) (keys .entry) (confidences .entry)) ⌝ }
 {
     match fill_rows(
         settings,
@@ -67,6 +68,7 @@ pub fn analyse_positions(
             middles,
             numbers,
             certainties,
+            shapeless,
             starts,
             ends,
             keys,

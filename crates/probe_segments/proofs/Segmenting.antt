@@ -12,7 +12,7 @@ use Rattle.laws.proofs.Every.{each}
 use Rattle.laws.proofs.Table.{each-of}
 use Rattle.calls.specs.declared.Settings.{Settings}
 use Rattle.timeline.specs.Estimates.{EstimateRows, estimateRoom}
-use Rattle.timeline.specs.inside.Estimates.{estimatesIn, Numbered, Found}
+use Rattle.timeline.specs.inside.Estimates.{Columns, estimatesIn, Numbered, Found}
 use Rattle.timeline.specs.Segments.{SegmentRows, segmentsIn, segmentRoom}
 use Rattle.timeline.specs.inside.Segments.{Room, FilledRows, filledRows}
 use Rattle.timeline.proofs.Rooms.{room-within, estimates-within}
@@ -50,7 +50,7 @@ module _ (least : Float) (rows : SegmentRows) {count : ℕ} {flag : Bool} (all :
   pub shortened : {out : FilledRows} → not flag ≡ false → out ≡ settled least (segmentsIn rows count) rows → out ≡ probedShorten least rows
   shortened t e = e ∙ ap (λ (n : ℕ). settled least (segmentsIn rows n) rows) all ∙ rw (known (passed told t))
 
-module _ (t : Track) (e : EstimateRows) (rows : SegmentRows) {room : ℕ} {fit : Bool} (all : room ≡ segmentRoom rows) (told : fit ≡ cutFits (length (e .centres)) (length (e .keys)) (length (e .confidences)) room) where
+module _ (t : Track) (e : Columns) (rows : SegmentRows) {room : ℕ} {fit : Bool} (all : room ≡ segmentRoom rows) (told : fit ≡ cutFits (length (e .centres)) (length (e .keys)) (length (e .confidences)) room) where
   abbrev tests : ℕ → Bool
   tests lent = cutFits (length (e .centres)) (length (e .keys)) (length (e .confidences)) lent
 
@@ -102,7 +102,7 @@ module _ (s : Settings) (samples : ℕ) (t : Track) (centres : List Float) (valu
       let few = windows-asked span in
       let there = estimates-within e (windowsOf span) (omega (arith, first, few, asks, lent)) in
       record {
-        ready = record { timed = omega (arith, many); valued = omega (arith, many); centres = there .0; keys = there .1; confidences = there .2 };
+        ready = record { timed = omega (arith, many); valued = omega (arith, many); centres = there .0; keys = there .1; confidences = there .2; shapeless = there .3 };
         room = room-within rows (windowsOf span) (omega (arith, second, few, asks, left));
         one = room-within rows 1 (omega (arith, one, left));
       }

@@ -10,7 +10,7 @@ use Rattle.laws.specs.Table.{allOf}
 use Rattle.keys.specs.Numbers.{keyNumber, keyAt}
 use Rattle.calls.specs.declared.Settings.{Settings}
 use Rattle.timeline.specs.Estimates.{EstimateRows, estimateRoom}
-use Rattle.timeline.specs.inside.Estimates.{estimatesIn}
+use Rattle.timeline.specs.inside.Estimates.{Columns, estimatesIn}
 use Rattle.timeline.specs.Segments.{SegmentRows, segmentsIn, segmentRoom}
 use Rattle.timeline.specs.inside.Segments.{FilledRows, filledRows}
 use Rattle.windows.specs.Span.{spanOf, rowsAsked}
@@ -65,7 +65,7 @@ abbrev pub cutFits : ℕ → ℕ → ℕ → ℕ → Bool
 cutFits middles numbers certainties room = allOf (eqb middles numbers ∷ eqb certainties numbers ∷ leb numbers room ∷ leb 1 room ∷ ltb numbers 4_294_967_296 ∷ [])
 
 -- the segments of all estimates; nothing where they do not fit or a key is above 23
-abbrev pub probedCut : Track → EstimateRows → SegmentRows → FilledRows
+abbrev pub probedCut : Track → Columns → SegmentRows → FilledRows
 probedCut t e rows =
     let found = length (e .keys) in
     cond (cutFits (length (e .centres)) found (length (e .confidences)) (segmentRoom rows)) (cond (allNumbers (e .keys) found) (filledOf t (estimatesIn e found) rows) (filledRows 0 rows)) (filledRows 0 rows)

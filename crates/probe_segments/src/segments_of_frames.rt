@@ -75,16 +75,17 @@ pub extern "C" fn probe_segments(
     middles: &mut [f64],
     numbers: &mut [u8],
     certainties: &mut [f32],
+    shapeless: &mut [u8],
     starts: &mut [f64],
     ends: &mut [f64],
     keys: &mut [u8],
     confidences: &mut [f32],
 ) -> ProbedSegments
-    ensures { λ r. ⌜ probed r (lentEstimates (middles .exit) (numbers .exit) (certainties .exit)) (lentSegments (starts .exit) (ends .exit) (keys .exit) (confidences .exit)) ≡ probedSegments settings samples (probedTrack settings samples key confidence) (heardIn (now (centres .entry)) (now (values .entry))) (lentEstimates (middles .entry) (numbers .entry) (certainties .entry)) (lentSegments (starts .entry) (ends .entry) (keys .entry) (confidences .entry)) ⌝ }
+    ensures { λ r. ⌜ probed r (lentEstimates (middles .exit) (numbers .exit) (certainties .exit) (shapeless .exit)) (lentSegments (starts .exit) (ends .exit) (keys .exit) (confidences .exit)) ≡ probedSegments settings samples (probedTrack settings samples key confidence) (heardIn (now (centres .entry)) (now (values .entry))) (lentEstimates (middles .entry) (numbers .entry) (certainties .entry) (shapeless .entry)) (lentSegments (starts .entry) (ends .entry) (keys .entry) (confidences .entry)) ⌝ }
 {
     let span = span_of(settings, samples);
     let asked = rows_asked(span);
-    let estimates = estimate_room(middles, numbers, certainties);
+    let estimates = estimate_room(middles, numbers, certainties, shapeless);
     let room = segment_room(starts, ends, keys, confidences);
     if !fits_in(asked, estimates, room) {
         return ProbedSegments {
@@ -104,6 +105,7 @@ pub extern "C" fn probe_segments(
         middles,
         numbers,
         certainties,
+        shapeless,
         starts,
         ends,
         keys,

@@ -2,7 +2,7 @@
 ghost use mathlib.Core.Path.{_≡_};
 ghost use Prim.Native.Nat.{_≤_};
 ghost use lib.ListN.{length};
-ghost use Rattle.timeline.specs.Estimates.{lentEstimates};
+ghost use Rattle.timeline.specs.inside.Estimates.{lentColumns};
 ghost use Rattle.timeline.specs.Segments.{lentSegments};
 ghost use Rattle.timeline.specs.inside.Segments.{filledRows};
 ghost use Rattle.probe_segments.specs.Segments.{probedMajority, allNumbers, probedShorten, probedReported, probedAnswer, probedAlternate, cutFits, probedCut, trackOf};
@@ -156,7 +156,7 @@ pub extern "C" fn probe_cut(
     keys: &mut [u8],
     confidences: &mut [f32],
 ) -> usize
-    ensures { λ r. ⌜ filledRows r (lentSegments (starts .exit) (ends .exit) (keys .exit) (confidences .exit)) ≡ probedCut (trackOf threshold minimum duration key confidence) (lentEstimates (middles .entry) (numbers .entry) (certainties .entry)) (lentSegments (starts .entry) (ends .entry) (keys .entry) (confidences .entry)) ⌝ }
+    ensures { λ r. ⌜ filledRows r (lentSegments (starts .exit) (ends .exit) (keys .exit) (confidences .exit)) ≡ probedCut (trackOf threshold minimum duration key confidence) (lentColumns (middles .entry) (numbers .entry) (certainties .entry)) (lentSegments (starts .entry) (ends .entry) (keys .entry) (confidences .entry)) ⌝ }
 {
     let found = numbers.len();
     let room = segment_room(starts, ends, keys, confidences);

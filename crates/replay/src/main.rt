@@ -31,7 +31,7 @@ fn print_found(count: usize, what: &[u8], differ: usize, ending: &[u8]) {
 fn replay_scores() {
     let mut buffer = io::large_buffer();
     let got = read_sample(b"scores.sample", &mut buffer);
-    let count = got / 160;
+    let count = got / 164;
     let differ = count_differing(&buffer[..got], count);
     print_found(count, b" chromas, ", differ, b" differ in scores or key\n");
 }

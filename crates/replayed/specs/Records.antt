@@ -1,4 +1,4 @@
--- Stored answers of the Rust, record by record: 40 numbers of 32 bits, lowest byte first. Definitions only.
+-- Stored answers of the Rust, record by record: 41 numbers of 32 bits, lowest byte first. Definitions only.
 use Prim.Native.Nat.{ℕ, _+_, _*_}
 use mathlib.Core.Bool.{Bool, true, not, _&&_, cond}
 use mathlib.Core.List.{List}
@@ -8,6 +8,7 @@ use lib.Ieee.{Float, nan, binary32, ofBits}
 use Rattle.laws.specs.Turns.{turns}
 use Rattle.laws.specs.Front.{list}
 use Rattle.laws.specs.Order.{orderKey}
+use Rattle.numbers.specs.Flags.{oneIf}
 use Rattle.keys.specs.Numbers.{keyNumber}
 use Rattle.key_choice.specs.declared.classify.Classified.{Classified}
 use Rattle.key_choice.specs.Classify.{certaintyOf, classifiedOf}
@@ -36,13 +37,14 @@ scoreTurn bytes start scores k same = same && sameValue (getD scores k nan) (val
 unfoldable pub sameScores : List ℕ → ℕ → List Float → Bool
 sameScores bytes start scores = turns (scoreTurn bytes start scores) 24 0 true
 
--- the last four
+-- the last five
 unfoldable pub sameKey : List ℕ → ℕ → Classified → Bool
 sameKey bytes start c =
     eqb (keyNumber (c .key)) (wordAt bytes (start + 144))
     && sameValue (c .best) (valueAt bytes (start + 148))
     && sameValue (c .second) (valueAt bytes (start + 152))
     && sameValue (certaintyOf c) (valueAt bytes (start + 156))
+    && eqb (oneIf (c .shapeless)) (wordAt bytes (start + 160))
 
 -- whether the record's answers are those of a classified chroma
 abbrev pub judges : List ℕ → ℕ → Classified → Bool
@@ -54,7 +56,7 @@ agrees bytes start = judges bytes start (classifiedOf (chromaAt bytes start))
 
 -- one record more
 abbrev pub recordTurn : List ℕ → ℕ → ℕ → ℕ
-recordTurn bytes n differ = cond (not (agrees bytes (n * 160))) (differ + 1) differ
+recordTurn bytes n differ = cond (not (agrees bytes (n * 164))) (differ + 1) differ
 
 -- how many of the first records say something else
 unfoldable pub differing : List ℕ → ℕ → ℕ

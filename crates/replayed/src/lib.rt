@@ -1,6 +1,6 @@
-// Replays stored answers of the Rust: a record is 40 numbers of 32 bits, each with its lowest byte
-// first. They are the patterns of a chroma's 12 values and of its 24 scores, the key number, and the
-// patterns of best score, second score and confidence.
+// Replays stored answers of the Rust: a record is 41 numbers of 32 bits, each with its lowest byte
+// first. They are the patterns of a chroma's 12 values and of its 24 scores, the key number, the
+// patterns of best score, second score and confidence, and 1 where the chroma has no shape, else 0.
 ghost use mathlib.Core.Path.{_≡_};
 ghost use Prim.Native.Nat.{_+_, _*_, _≤_};
 ghost use lib.ListN.{length};
@@ -9,6 +9,7 @@ use key_choice::classify::Classified;
 use key_choice::classify::classify_key;
 use key_choice::classify::key_confidence;
 use keys::numbers::key_number;
+use numbers::flags::one_if;
 use numbers::single::from_pattern;
 use numbers::single::order_key;
 
@@ -44,7 +45,7 @@ pub fn same_value(a: f32, b: f32) -> bool
 
 // The chroma of the record that starts at `start`.
 fn chroma_at(bytes: &[u8], start: usize) -> [f32; 12]
-    requires { ⌜ start + 160 ≤ length (now bytes) ⌝ }
+    requires { ⌜ start + 164 ≤ length (now bytes) ⌝ }
     ensures { λ r. ⌜ r ≡ chromaAt (now (bytes .entry)) start ⌝ }
 {
     let mut chroma = [0.0; 12];
@@ -58,7 +59,7 @@ fn chroma_at(bytes: &[u8], start: usize) -> [f32; 12]
 
 // Whether these are the record's scores.
 fn scores_agree(bytes: &[u8], start: usize, scores: &[f32; 24]) -> bool
-    requires { ⌜ start + 160 ≤ length (now bytes) ⌝ }
+    requires { ⌜ start + 164 ≤ length (now bytes) ⌝ }
     ensures { λ r. ⌜ r ≡ sameScores (now (bytes .entry)) start (now (scores .entry)) ⌝ }
 {
     let mut same = true;
@@ -70,9 +71,9 @@ fn scores_agree(bytes: &[u8], start: usize, scores: &[f32; 24]) -> bool
     same
 }
 
-// Whether this is the record's key, with its two scores and its confidence.
+// Whether this is the record's key, with its two scores, its confidence and whether there is no shape.
 fn key_agrees(bytes: &[u8], start: usize, found: Classified) -> bool
-    requires { ⌜ start + 160 ≤ length (now bytes) ⌝ }
+    requires { ⌜ start + 164 ≤ length (now bytes) ⌝ }
     ensures { λ r. ⌜ r ≡ sameKey (now (bytes .entry)) start found ⌝ }
 {
     let key = found.key;
@@ -80,15 +81,17 @@ fn key_agrees(bytes: &[u8], start: usize, found: Classified) -> bool
     let second = found.second;
     let number = key_number(key) as u32;
     let confidence = key_confidence(best, second);
+    let shapeless = one_if(found.shapeless) as u32;
     (number == word_at(bytes, start + 144))
         & same_value(best, value_at(bytes, start + 148))
         & same_value(second, value_at(bytes, start + 152))
         & same_value(confidence, value_at(bytes, start + 156))
+        & (shapeless == word_at(bytes, start + 160))
 }
 
 // Whether what is worked out from the record's chroma is what the record says.
 fn record_agrees(bytes: &[u8], start: usize) -> bool
-    requires { ⌜ start + 160 ≤ length (now bytes) ⌝ }
+    requires { ⌜ start + 164 ≤ length (now bytes) ⌝ }
     ensures { λ r. ⌜ r ≡ agrees (now (bytes .entry)) start ⌝ }
 {
     let chroma = chroma_at(bytes, start);
@@ -99,13 +102,13 @@ fn record_agrees(bytes: &[u8], start: usize) -> bool
 
 // How many of the first `count` records say something else.
 pub fn count_differing(bytes: &[u8], count: usize) -> usize
-    requires { ⌜ count * 160 ≤ length (now bytes) ⌝ }
+    requires { ⌜ count * 164 ≤ length (now bytes) ⌝ }
     ensures { λ r. ⌜ r ≡ differing (now (bytes .entry)) count ⌝ }
 {
     let mut differ = 0;
     let mut n = 0;
     while n < count {
-        let same = record_agrees(bytes, n * 160);
+        let same = record_agrees(bytes, n * 164);
         n += 1;
         if !same {
             differ += 1;

@@ -22,7 +22,7 @@ zeros count = replicate count plusZero
 abbrev pub blank : Lent
 blank =
     lent (rows (zeros 8) (replicate 8 (zeros 12)) (zeros 8)) (zeros 8)
-    (estimateRows (zeros 5) (replicate 5 0) (zeros 5))
+    (estimateRows (zeros 5) (replicate 5 0) (zeros 5) (replicate 5 0))
     (segmentRows (zeros 5) (zeros 5) (replicate 5 0) (zeros 5))
 
 -- whether the outcome of the record's call is the stored one
@@ -31,11 +31,11 @@ agrees bytes start = sameOutcome bytes start (analysed (callAt bytes start) blan
 
 -- how many records stand behind the sheet
 unfoldable pub recordsIn : List ℕ → ℕ
-recordsIn bytes = (length bytes - 3648) / 2376
+recordsIn bytes = (length bytes - 3648) / 2400
 
 -- one record more
 abbrev pub recordTurn : List ℕ → ℕ → ℕ → ℕ
-recordTurn bytes n differ = cond (not (agrees bytes (3648 + n * 2376))) (differ + 1) differ
+recordTurn bytes n differ = cond (not (agrees bytes (3648 + n * 2400))) (differ + 1) differ
 
 -- how many of them say something else
 unfoldable pub differing : List ℕ → ℕ

@@ -29,7 +29,7 @@ fn call_agrees(
     qcoefficients: &[f32],
     qwindows: &[f32],
 ) -> bool
-    requires { ⌜ start + 2376 ≤ length (now bytes) ⌝ }
+    requires { ⌜ start + 2400 ≤ length (now bytes) ⌝ }
     ensures { λ r. ⌜ r ≡ sameOutcome (now (bytes .entry)) start (analysed (given settings head (samples .entry) (window .entry) (coefficients .entry) (weights .entry) (lengths .entry) (qcoefficients .entry) (qwindows .entry)) blank) ⌝ }
 {
     let mut centres = [0.0; 8];
@@ -39,6 +39,7 @@ fn call_agrees(
     let mut middles = [0.0; 5];
     let mut numbers = [0; 5];
     let mut certainties = [0.0; 5];
+    let mut shapeless = [0; 5];
     let mut starts = [0.0; 5];
     let mut ends = [0.0; 5];
     let mut keys = [0; 5];
@@ -60,6 +61,7 @@ fn call_agrees(
         &mut middles,
         &mut numbers,
         &mut certainties,
+        &mut shapeless,
         &mut starts,
         &mut ends,
         &mut keys,
@@ -76,6 +78,7 @@ fn call_agrees(
         &middles,
         &numbers,
         &certainties,
+        &shapeless,
         &starts,
         &ends,
         &keys,
@@ -85,7 +88,7 @@ fn call_agrees(
 
 // Whether the record that starts at `start` tells what an analysis answers and leaves.
 fn record_agrees(bytes: &[u8], start: usize) -> bool
-    requires { ⌜ (3648 ≤ start) × (start + 2376 ≤ length (now bytes)) ⌝ }
+    requires { ⌜ (3648 ≤ start) × (start + 2400 ≤ length (now bytes)) ⌝ }
     ensures { λ r. ⌜ r ≡ agrees (now (bytes .entry)) start ⌝ }
 {
     let settings = settings_at(bytes, start);
@@ -126,7 +129,7 @@ pub fn count_analyses(bytes: &[u8]) -> usize
     if bytes.len() < 3648 {
         return 0;
     }
-    (bytes.len() - 3648) / 2376
+    (bytes.len() - 3648) / 2400
 }
 
 // How many of them say something else.
@@ -137,7 +140,7 @@ pub fn count_differing_analyses(bytes: &[u8]) -> usize
     let mut differ = 0;
     let mut n = 0;
     while n < count {
-        let same = record_agrees(bytes, 3648 + n * 2376);
+        let same = record_agrees(bytes, 3648 + n * 2400);
         n += 1;
         if !same {
             differ += 1;

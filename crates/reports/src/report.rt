@@ -76,13 +76,14 @@ pub fn report_track(
     middles: &mut [f64],
     numbers: &mut [u8],
     certainties: &mut [f32],
+    shapeless: &mut [u8],
     starts: &mut [f64],
     ends: &mut [f64],
     keys: &mut [u8],
     confidences: &mut [f32],
 ) -> AnalyseResult
-    requires { ⌜ Prepared (spanOf settings samples) (heard frames (now centres) (now values)) (lentEstimates middles numbers certainties) (lentSegments starts ends keys confidences) ⌝ }
-    ensures { λ r. ⌜ reported r (lentEstimates (middles .exit) (numbers .exit) (certainties .exit)) (lentSegments (starts .exit) (ends .exit) (keys .exit) (confidences .exit)) ≡ reportedIn (reportOf settings samples verdict (heard frames (now (centres .entry)) (now (values .entry)))) (lentEstimates (middles .entry) (numbers .entry) (certainties .entry)) (lentSegments (starts .entry) (ends .entry) (keys .entry) (confidences .entry)) ⌝ }
+    requires { ⌜ Prepared (spanOf settings samples) (heard frames (now centres) (now values)) (lentEstimates middles numbers certainties shapeless) (lentSegments starts ends keys confidences) ⌝ }
+    ensures { λ r. ⌜ reported r (lentEstimates (middles .exit) (numbers .exit) (certainties .exit) (shapeless .exit)) (lentSegments (starts .exit) (ends .exit) (keys .exit) (confidences .exit)) ≡ reportedIn (reportOf settings samples verdict (heard frames (now (centres .entry)) (now (values .entry)))) (lentEstimates (middles .entry) (numbers .entry) (certainties .entry) (shapeless .entry)) (lentSegments (starts .entry) (ends .entry) (keys .entry) (confidences .entry)) ⌝ }
 {
     let span = span_of(settings, samples);
     let track = track_of(settings, span, verdict);
@@ -95,6 +96,7 @@ pub fn report_track(
         middles,
         numbers,
         certainties,
+        shapeless,
         starts,
         ends,
         keys,

@@ -1,3 +1,4 @@
 pub mod Profiles
 pub mod Scores
+pub mod Shape
 pub mod inside

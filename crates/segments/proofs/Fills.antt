@@ -12,8 +12,7 @@ use Rattle.laws.specs.Values.{plusZero}
 use Rattle.laws.proofs.Front.{length-list}
 use Rattle.laws.proofs.Column.{column-fits}
 use Rattle.keys.specs.Numbers.{keyNumber}
-use Rattle.timeline.specs.Estimates.{EstimateRows}
-use Rattle.timeline.specs.inside.Estimates.{estimateIn, estimatesIn, Numbered}
+use Rattle.timeline.specs.inside.Estimates.{Columns, estimateIn, estimatesIn, Numbered}
 use Rattle.timeline.specs.Segments.{segment, SegmentRows, segmentsIn, holdingSegments}
 use Rattle.timeline.specs.inside.Segments.{putSegment, Room, FilledRows, filledRows, standing}
 use Rattle.timeline.specs.declared.segment.Segment.{Segment}
@@ -25,7 +24,7 @@ use Rattle.shortening.proofs.Settles.{left-long}
 use Rattle.segments.specs.inside.Fill.{cutOf}
 use Rattle.segments.specs.declared.fill.Track.{Track}
 
-module _ (t : Track) (rows : EstimateRows) (count : ℕ) where
+module _ (t : Track) (rows : Columns) (count : ℕ) where
   -- with an estimate the groups are cut
   pub groups-cut : {out : FilledRows} (before : SegmentRows) → 0 < count → out ≡ standing (groupsOf (t .threshold) (t .duration) (estimatesIn rows count)) before → out ≡ standing (cutOf t (estimatesIn rows count)) before
   unfolding firstSegments

@@ -2,7 +2,7 @@
 use mathlib.Core.Path.{_≡_, refl, sym, ap, subst, _∙_}
 use mathlib.Core.Logic.{inl, inr}
 use mathlib.Core.Bool.{Bool, true, false, not, cond}
-use mathlib.Core.List.{List}
+use mathlib.Core.List.{List, map}
 use Prim.Native.Nat.{ℕ, _+_, _^_, _<_, _≤_, min}
 use native.Mathlib.Omega.{arith}
 use borrow.Author.Tests.{lt-ltb, le-ltb}
@@ -13,10 +13,11 @@ use Rattle.laws.proofs.Cases.{lt-or-ge}
 use Rattle.laws.proofs.Column.{column-fits}
 use Rattle.keys.specs.Numbers.{keyNumber}
 use Rattle.timeline.specs.Estimates.{EstimateRows, holdingEstimates}
-use Rattle.timeline.specs.inside.Estimates.{estimatesIn, Found}
+use Rattle.timeline.specs.inside.Estimates.{columnsOf, plain, estimatesIn, Found}
 use Rattle.timeline.specs.Segments.{SegmentRows}
 use Rattle.timeline.specs.inside.Segments.{Room, filledRows}
 use Rattle.timeline.specs.declared.estimate.Estimate.{Estimate}
+use Rattle.timeline.specs.declared.segment.Segment.{Segment}
 use Rattle.timeline.proofs.Estimates.{rows-numbered, rows-read-back}
 use Rattle.windows.specs.Span.{windowsOf}
 use Rattle.gathering.specs.Gather.{Heard}
@@ -27,6 +28,8 @@ use Rattle.windows.specs.declared.run.Estimated.{Estimated}
 use Rattle.windows.specs.declared.run.Estimated.the-variants.{All, Stuck}
 use Rattle.windows.proofs.Found.{estimates-few}
 use Rattle.windows.proofs.Spans.{windows-few}
+use Rattle.groups.proofs.Plain.{shape-unread}
+use Rattle.shortening.specs.inside.Settled.{settled}
 use Rattle.segments.specs.inside.Fill.{filledOf}
 use Rattle.segments.specs.inside.Located.{locatedIn, toldIn, locatedOf, Prepared}
 use Rattle.segments.specs.declared.fill.Track.{Track}
@@ -55,7 +58,7 @@ swept-is s h before = elim (lt-or-ge k windows) [
     k : ℕ
     k = first (stuckAt s) windows 0
 
-held-found : (found : List Estimate) (before : EstimateRows) → length found < 2 ^ 32 → Found (holdingEstimates found before) (length found)
+held-found : (found : List Estimate) (before : EstimateRows) → length found < 2 ^ 32 → Found (columnsOf (holdingEstimates found before)) (length found)
 held-found found before few =
     record {
       centres = column-fits (λ (e : Estimate). e .centre) found (before .centres);
@@ -64,6 +67,11 @@ held-found found before few =
       numbered = rows-numbered found before;
       few = few;
     }
+
+-- filling does not read whether chromas have a shape
+fill-unread : (t : Track) (found : List Estimate) (before : SegmentRows) → filledOf t (map plain found) before ≡ filledOf t found before
+unfolding filledOf
+fill-unread t found before = ap (λ (cut : List Segment). settled (t .minimum) cut before) (shape-unread (t .threshold) (t .duration) (t .key) (t .confidence) found)
 
 pub prepared-run : {s : Span} {h : Heard} {before : EstimateRows} {segments : SegmentRows} {windows : ℕ} → windows ≡ windowsOf s → Prepared s h before segments → Ready h before windows
 prepared-run {h = h} {before = before} all p = subst (Ready h before) (sym all) (p .ready)
@@ -105,15 +113,15 @@ module _ (s : Span) (h : Heard) (before : EstimateRows) {windows : ℕ} (all : w
         let few = estimates-few s h (windowsPassed s) in
         omega (arith, says run .count, few)
 
-    pub passed-found : Found rows n
+    pub passed-found : Found (columnsOf rows) n
     passed-found =
         let most = windows-few s in
         let few = passed-few in
         let small : length found < 2 ^ 32 = omega (arith, most, few, says run .count) in
-        subst (λ (r : EstimateRows). Found r n) (sym (says run .held)) (subst (Found (holdingEstimates found before)) (sym (says run .count)) (held-found found before small))
+        subst (λ (r : EstimateRows). Found (columnsOf r) n) (sym (says run .held)) (subst (Found (columnsOf (holdingEstimates found before))) (sym (says run .count)) (held-found found before small))
 
   -- what filling the rows needs, after a run that passed all windows
-  pub passed-needs : {n : ℕ} {answer : Estimated} {rows : EstimateRows} (segments : SegmentRows) → Prepared s h before segments → answer ≡ All n → swept answer rows ≡ sweptOf s h windows before → Found rows n × Room segments n × Room segments 1
+  pub passed-needs : {n : ℕ} {answer : Estimated} {rows : EstimateRows} (segments : SegmentRows) → Prepared s h before segments → answer ≡ All n → swept answer rows ≡ sweptOf s h windows before → Found (columnsOf rows) n × Room segments n × Room segments 1
   passed-needs {n} {answer} {rows} segments ready a run =
       let all-run = sym (ap (λ (x : Estimated). swept x rows) a) ∙ run in
       let few = passed-few all-run in (
@@ -133,12 +141,12 @@ module _ (s : Span) (h : Heard) (before : EstimateRows) {windows : ℕ} (all : w
       let told = says (sym (ap (λ (x : Estimated). swept x rows) a) ∙ run) in
       rw (told .halting, told .held) (ap (λ (k : ℕ). locatedIn (Halted k) (holdingEstimates found before) segments) (told .count))
 
-  pub told-all : (t : Track) (segments : SegmentRows) {n count : ℕ} {answer : Estimated} {rows : EstimateRows} {after : SegmentRows} → answer ≡ All n → swept answer rows ≡ sweptOf s h windows before → filledRows count after ≡ filledOf t (estimatesIn rows n) segments → locatedIn (Told n count) rows after ≡ locatedOf s t h before segments
+  pub told-all : (t : Track) (segments : SegmentRows) {n count : ℕ} {answer : Estimated} {rows : EstimateRows} {after : SegmentRows} → answer ≡ All n → swept answer rows ≡ sweptOf s h windows before → filledRows count after ≡ filledOf t (estimatesIn (columnsOf rows) n) segments → locatedIn (Told n count) rows after ≡ locatedOf s t h before segments
   unfolding locatedOf
   told-all t segments {n} {rows = rows} a run fill =
       let told = says (sym (ap (λ (x : Estimated). swept x rows) a) ∙ run) in
-      let read : estimatesIn rows n ≡ found = ap (λ (r : EstimateRows). estimatesIn r n) (told .held) ∙ ap (estimatesIn (holdingEstimates found before)) (told .count) ∙ rows-read-back found before in
-      ap (toldIn n rows) (fill ∙ ap (λ (l : List Estimate). filledOf t l segments) read)
+      let read : estimatesIn (columnsOf rows) n ≡ map plain found = ap (λ (r : EstimateRows). estimatesIn (columnsOf r) n) (told .held) ∙ ap (estimatesIn (columnsOf (holdingEstimates found before))) (told .count) ∙ rows-read-back found before in
+      ap (toldIn n rows) (fill ∙ ap (λ (l : List Estimate). filledOf t l segments) read ∙ fill-unread t found segments)
       ∙ ap (λ (k : ℕ). toldIn k rows (filledOf t found segments)) (told .count)
       ∙ ap (λ (r : EstimateRows). toldIn (length found) r (filledOf t found segments)) (told .held)
       ∙ rw (told .halting)

@@ -2,8 +2,7 @@
 ghost use mathlib.Core.Path.{_≡_};
 ghost use Prim.Native.Nat.{_<_, _≤_};
 ghost use lib.ListN.{length};
-ghost use Rattle.timeline.specs.Estimates.{lentEstimates};
-ghost use Rattle.timeline.specs.inside.Estimates.{Found, estimatesIn};
+ghost use Rattle.timeline.specs.inside.Estimates.{lentColumns, Found, estimatesIn};
 ghost use Rattle.timeline.specs.Segments.{lentSegments};
 ghost use Rattle.timeline.specs.inside.Segments.{Room, filledRows, standing};
 ghost use Rattle.segments.specs.inside.Fill.{filledOf, cutOf};
@@ -34,8 +33,8 @@ fn cut_track(
     keys: &mut [u8],
     confidences: &mut [f32],
 ) -> usize
-    requires { ⌜ Found (lentEstimates middles numbers certainties) found × Room (lentSegments starts ends keys confidences) found × Room (lentSegments starts ends keys confidences) 1 ⌝ }
-    ensures { λ r. ⌜ filledRows r (lentSegments (starts .exit) (ends .exit) (keys .exit) (confidences .exit)) ≡ standing (cutOf track (estimatesIn (lentEstimates (middles .entry) (numbers .entry) (certainties .entry)) found)) (lentSegments (starts .entry) (ends .entry) (keys .entry) (confidences .entry)) ⌝ }
+    requires { ⌜ Found (lentColumns middles numbers certainties) found × Room (lentSegments starts ends keys confidences) found × Room (lentSegments starts ends keys confidences) 1 ⌝ }
+    ensures { λ r. ⌜ filledRows r (lentSegments (starts .exit) (ends .exit) (keys .exit) (confidences .exit)) ≡ standing (cutOf track (estimatesIn (lentColumns (middles .entry) (numbers .entry) (certainties .entry)) found)) (lentSegments (starts .entry) (ends .entry) (keys .entry) (confidences .entry)) ⌝ }
 {
     if found > 0 {
         return cut_groups(
@@ -74,8 +73,8 @@ pub fn fill_segments(
     keys: &mut [u8],
     confidences: &mut [f32],
 ) -> usize
-    requires { ⌜ Found (lentEstimates middles numbers certainties) found × Room (lentSegments starts ends keys confidences) found × Room (lentSegments starts ends keys confidences) 1 ⌝ }
-    ensures { λ r. ⌜ filledRows r (lentSegments (starts .exit) (ends .exit) (keys .exit) (confidences .exit)) ≡ filledOf track (estimatesIn (lentEstimates (middles .entry) (numbers .entry) (certainties .entry)) found) (lentSegments (starts .entry) (ends .entry) (keys .entry) (confidences .entry)) ⌝ }
+    requires { ⌜ Found (lentColumns middles numbers certainties) found × Room (lentSegments starts ends keys confidences) found × Room (lentSegments starts ends keys confidences) 1 ⌝ }
+    ensures { λ r. ⌜ filledRows r (lentSegments (starts .exit) (ends .exit) (keys .exit) (confidences .exit)) ≡ filledOf track (estimatesIn (lentColumns (middles .entry) (numbers .entry) (certainties .entry)) found) (lentSegments (starts .entry) (ends .entry) (keys .entry) (confidences .entry)) ⌝ }
 {
     let count = cut_track(
         track,

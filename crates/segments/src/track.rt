@@ -27,13 +27,14 @@ pub fn locate_segments(
     middles: &mut [f64],
     numbers: &mut [u8],
     certainties: &mut [f32],
+    shapeless: &mut [u8],
     starts: &mut [f64],
     ends: &mut [f64],
     keys: &mut [u8],
     confidences: &mut [f32],
 ) -> Located
-    requires { ⌜ Prepared span (heard frames (now centres) (now values)) (lentEstimates middles numbers certainties) (lentSegments starts ends keys confidences) ⌝ }
-    ensures { λ r. ⌜ locatedIn r (lentEstimates (middles .exit) (numbers .exit) (certainties .exit)) (lentSegments (starts .exit) (ends .exit) (keys .exit) (confidences .exit)) ≡ locatedOf span track (heard frames (now (centres .entry)) (now (values .entry))) (lentEstimates (middles .entry) (numbers .entry) (certainties .entry)) (lentSegments (starts .entry) (ends .entry) (keys .entry) (confidences .entry)) ⌝ }
+    requires { ⌜ Prepared span (heard frames (now centres) (now values)) (lentEstimates middles numbers certainties shapeless) (lentSegments starts ends keys confidences) ⌝ }
+    ensures { λ r. ⌜ locatedIn r (lentEstimates (middles .exit) (numbers .exit) (certainties .exit) (shapeless .exit)) (lentSegments (starts .exit) (ends .exit) (keys .exit) (confidences .exit)) ≡ locatedOf span track (heard frames (now (centres .entry)) (now (values .entry))) (lentEstimates (middles .entry) (numbers .entry) (certainties .entry) (shapeless .entry)) (lentSegments (starts .entry) (ends .entry) (keys .entry) (confidences .entry)) ⌝ }
 {
     let windows = count_windows(span);
     let run = fill_estimates(
@@ -45,6 +46,7 @@ pub fn locate_segments(
         middles,
         numbers,
         certainties,
+        shapeless,
     );
     match run {
         Estimated::Stuck(found) => Located::Halted(found),

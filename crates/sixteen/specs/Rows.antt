@@ -1,6 +1,6 @@
 -- Document 01's sixteen rows, a to p, each as a test of the definitions that the checker computes. Definitions and the statement.
 use Prim.Native.Nat.{ℕ}
-use mathlib.Core.Bool.{Bool, true, not, _&&_}
+use mathlib.Core.Bool.{Bool, true, false, not, _&&_}
 use mathlib.Core.List.{List, [], _∷_, _++_}
 use lib.Dec.{T, eqb}
 use lib.IntN.{pos}
@@ -123,7 +123,7 @@ rowJ = record { letter = 106; holds = names (part 0 46 0 ∷ part 46 60 7 ∷ []
 -- ---- k: windows cut into groups
 -- a window: its centre in seconds, its key number, and the pattern of its confidence
 abbrev pub window : ℕ → ℕ → ℕ → Estimate
-window centre number confidence = record { centre = whole centre; key = keyAt number; confidence = ofBits binary32 confidence }
+window centre number confidence = record { centre = whole centre; key = keyAt number; confidence = ofBits binary32 confidence; shapeless = false }
 
 -- with a threshold of 0.35 and 30 s, the windows become these segments
 abbrev pub groups : List Estimate → List Segment → Bool
@@ -151,12 +151,13 @@ unfoldable pub rowL : Row
 rowL = record { letter = 108; holds = every (λ (k : ℕ). eqb (toBits binary32 (getD (shiftedOf onlyB aHalf) k nan)) (getD halves k 1)) 12 }
 
 -- ---- m and n: what a chroma of twelve equal values tells
--- there are 24 scores, each of them and the confidence pass a test, and the key is number 0
+-- there are 24 scores, each of them and the confidence pass a test, the key is number 0, and the chroma has no shape (02 §4)
 abbrev pub tells : (Float → Bool) → Classified → Bool
 tells test c =
     eqb (length (c .scores)) 24 && every (λ (k : ℕ). test (getD (c .scores) k nan)) 24
     && eqb (keyNumber (c .key)) 0
     && test (confidenceOf (c .best) (c .second))
+    && c .shapeless
 
 -- +0, told from -0 by its pattern
 abbrev pub isPlusZero : Float → Bool

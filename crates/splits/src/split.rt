@@ -1,59 +1,31 @@
-// Whether a window starts a group, and the border between two windows.
+// Whether a window starts a group, and the border between two windows, from the columns that tell it.
 ghost use mathlib.Core.Path.{_≡_};
 ghost use Prim.Native.Nat.{_<_};
 ghost use lib.ListN.{length};
-ghost use Rattle.timeline.specs.Estimates.{lentEstimates};
-ghost use Rattle.timeline.specs.inside.Estimates.{estimateIn};
-ghost use Rattle.splits.specs.Splits.{splits, borderOf};
+ghost use Rattle.splits.specs.inside.Columns.{splitsIn, borderIn};
 use keys::numbers::same_key;
-use timeline::estimate::Estimate;
-use timeline::estimate::estimate_at;
+use timeline::stored::stored_key;
 
-// Whether a window starts a group: another key than the window before, with confidence enough.
-fn starts_group(threshold: f32, before: Estimate, estimate: Estimate) -> bool
-    ensures { λ r. ⌜ r ≡ splits threshold before estimate ⌝ }
-{
-    let key = estimate.key;
-    let other = before.key;
-    !same_key(key, other) & (threshold <= estimate.confidence)
-}
-
-// Midway between the centres of two windows.
-fn border_between(before: Estimate, estimate: Estimate) -> f64
-    ensures { λ r. ⌜ r ≡ borderOf before estimate ⌝ }
-{
-    (before.centre + estimate.centre) / 2.0
-}
-
-// Whether window `next` starts a group, against window `before`.
+// Whether window `next` starts a group: another key than window `before`, with confidence enough.
 pub fn is_split(
     threshold: f32,
     before: usize,
     next: usize,
-    middles: &[f64],
     numbers: &[u8],
     certainties: &[f32],
 ) -> bool
-    requires { ⌜ (before < next) × (next < length (now middles)) × (next < length (now numbers)) × (next < length (now certainties)) ⌝ }
-    ensures { λ r. ⌜ r ≡ splits threshold (estimateIn (lentEstimates (middles .entry) (numbers .entry) (certainties .entry)) before) (estimateIn (lentEstimates (middles .entry) (numbers .entry) (certainties .entry)) next) ⌝ }
+    requires { ⌜ (before < next) × (next < length (now numbers)) × (next < length (now certainties)) ⌝ }
+    ensures { λ r. ⌜ r ≡ splitsIn threshold (now (numbers .entry)) (now (certainties .entry)) before next ⌝ }
 {
-    let earlier = estimate_at(before, middles, numbers, certainties);
-    let later = estimate_at(next, middles, numbers, certainties);
-    starts_group(threshold, earlier, later)
+    let key = stored_key(numbers[next]);
+    let other = stored_key(numbers[before]);
+    !same_key(key, other) & (threshold <= certainties[next])
 }
 
-// The border between two windows in the rows.
-pub fn border_in_rows(
-    before: usize,
-    next: usize,
-    middles: &[f64],
-    numbers: &[u8],
-    certainties: &[f32],
-) -> f64
-    requires { ⌜ (before < next) × (next < length (now middles)) × (next < length (now numbers)) × (next < length (now certainties)) ⌝ }
-    ensures { λ r. ⌜ r ≡ borderOf (estimateIn (lentEstimates (middles .entry) (numbers .entry) (certainties .entry)) before) (estimateIn (lentEstimates (middles .entry) (numbers .entry) (certainties .entry)) next) ⌝ }
+// Midway between the centres of two windows.
+pub fn border_in_rows(before: usize, next: usize, middles: &[f64]) -> f64
+    requires { ⌜ (before < next) × (next < length (now middles)) ⌝ }
+    ensures { λ r. ⌜ r ≡ borderIn (now (middles .entry)) before next ⌝ }
 {
-    let earlier = estimate_at(before, middles, numbers, certainties);
-    let later = estimate_at(next, middles, numbers, certainties);
-    border_between(earlier, later)
+    (middles[before] + middles[next]) / 2.0
 }

@@ -22,6 +22,7 @@ pub record Sized (l : Lent) : Type 0 where
   pub middles : length (l .estimates .centres) ≡ 5
   pub numbers : length (l .estimates .keys) ≡ 5
   pub certainties : length (l .estimates .confidences) ≡ 5
+  pub shapeless : length (l .estimates .shapeless) ≡ 5
   pub starts : length (l .segments .starts) ≡ 5
   pub ends : length (l .segments .ends) ≡ 5
   pub keys : length (l .segments .keys) ≡ 5
@@ -30,9 +31,9 @@ pub record Sized (l : Lent) : Type 0 where
 -- the answer's whole numbers, then its values
 unfoldable pub sameAnswer : List ℕ → ℕ → AnalyseResult → Bool
 sameAnswer bytes at r =
-    sameNumbers bytes at (r .refusal ∷ r .position ∷ r .key ∷ r .«dsp_key» ∷ r .alternate ∷ r .frames ∷ r .estimates ∷ r .segments ∷ [])
-    && sameValues bytes (at + 32) (r .coverage ∷ r .confidence ∷ [])
-    && sameChroma bytes (at + 40) (r .chroma)
+    sameNumbers bytes at (r .refusal ∷ r .position ∷ r .key ∷ r .«dsp_key» ∷ r .alternate ∷ r .frames ∷ r .estimates ∷ r .segments ∷ r .shapeless ∷ [])
+    && sameValues bytes (at + 36) (r .coverage ∷ r .confidence ∷ [])
+    && sameChroma bytes (at + 44) (r .chroma)
 
 -- the frame rows, then the work numbers
 unfoldable pub sameFrames : List ℕ → ℕ → Rows → List Float → Bool
@@ -45,7 +46,10 @@ sameFrames bytes at r work =
 -- the estimates
 unfoldable pub sameEstimates : List ℕ → ℕ → EstimateRows → Bool
 sameEstimates bytes at r =
-    sameTimes bytes at (r .centres) && sameNumbers bytes (at + 40) (r .keys) && sameValues bytes (at + 60) (r .confidences)
+    sameTimes bytes at (r .centres)
+    && sameNumbers bytes (at + 40) (r .keys)
+    && sameValues bytes (at + 60) (r .confidences)
+    && sameNumbers bytes (at + 80) (r .shapeless)
 
 -- the segments
 unfoldable pub sameSegments : List ℕ → ℕ → SegmentRows → Bool
@@ -59,6 +63,6 @@ sameSegments bytes at r =
 unfoldable pub sameOutcome : List ℕ → ℕ → AnalyseOutcome → Bool
 sameOutcome bytes start o =
     sameAnswer bytes (start + 1576) (o .answer)
-    && sameFrames bytes (start + 1664) (o .lent .frames) (o .lent .work)
-    && sameEstimates bytes (start + 2176) (o .lent .estimates)
-    && sameSegments bytes (start + 2256) (o .lent .segments)
+    && sameFrames bytes (start + 1668) (o .lent .frames) (o .lent .work)
+    && sameEstimates bytes (start + 2180) (o .lent .estimates)
+    && sameSegments bytes (start + 2280) (o .lent .segments)

@@ -18,7 +18,7 @@ use answers::answer::AnalyseResult;
 
 // Whether this is the answer from `at` on.
 fn answer_agrees(bytes: &[u8], at: usize, answer: AnalyseResult) -> bool
-    requires { ⌜ at + 88 ≤ length (now bytes) ⌝ }
+    requires { ⌜ at + 92 ≤ length (now bytes) ⌝ }
     ensures { λ r. ⌜ r ≡ sameAnswer (now (bytes .entry)) at answer ⌝ }
 {
     let numbers = [
@@ -30,12 +30,13 @@ fn answer_agrees(bytes: &[u8], at: usize, answer: AnalyseResult) -> bool
         answer.frames,
         answer.estimates,
         answer.segments,
+        answer.shapeless as u64,
     ];
     let values = [answer.coverage, answer.confidence];
     let chroma = answer.chroma;
     counts_agree(bytes, at, &numbers)
-        & values_agree(bytes, at + 32, &values)
-        & chroma_agrees(bytes, at + 40, &chroma)
+        & values_agree(bytes, at + 36, &values)
+        & chroma_agrees(bytes, at + 44, &chroma)
 }
 
 // Whether these are the frame rows and work numbers from `at` on.
@@ -63,13 +64,15 @@ fn estimates_agree(
     middles: &[f64],
     numbers: &[u8],
     certainties: &[f32],
+    shapeless: &[u8],
 ) -> bool
-    requires { ⌜ (at + 80 ≤ length (now bytes)) × (length (now middles) ≡ 5) × (length (now numbers) ≡ 5) × (length (now certainties) ≡ 5) ⌝ }
-    ensures { λ r. ⌜ r ≡ sameEstimates (now (bytes .entry)) at (lentEstimates (middles .entry) (numbers .entry) (certainties .entry)) ⌝ }
+    requires { ⌜ (at + 100 ≤ length (now bytes)) × (length (now middles) ≡ 5) × (length (now numbers) ≡ 5) × (length (now certainties) ≡ 5) × (length (now shapeless) ≡ 5) ⌝ }
+    ensures { λ r. ⌜ r ≡ sameEstimates (now (bytes .entry)) at (lentEstimates (middles .entry) (numbers .entry) (certainties .entry) (shapeless .entry)) ⌝ }
 {
     times_agree(bytes, at, middles)
         & numbers_agree(bytes, at + 40, numbers)
         & values_agree(bytes, at + 60, certainties)
+        & numbers_agree(bytes, at + 80, shapeless)
 }
 
 // Whether these are the segments from `at` on.
@@ -102,16 +105,24 @@ pub fn outcome_agrees(
     middles: &[f64],
     numbers: &[u8],
     certainties: &[f32],
+    shapeless: &[u8],
     starts: &[f64],
     ends: &[f64],
     keys: &[u8],
     confidences: &[f32],
 ) -> bool
-    requires { ⌜ (start + 2376 ≤ length (now bytes)) × Sized (lentAll centres values energies work middles numbers certainties starts ends keys confidences) ⌝ }
-    ensures { λ r. ⌜ r ≡ sameOutcome (now (bytes .entry)) start (analyseOutcome answer (lentAll (centres .entry) (values .entry) (energies .entry) (work .entry) (middles .entry) (numbers .entry) (certainties .entry) (starts .entry) (ends .entry) (keys .entry) (confidences .entry))) ⌝ }
+    requires { ⌜ (start + 2400 ≤ length (now bytes)) × Sized (lentAll centres values energies work middles numbers certainties shapeless starts ends keys confidences) ⌝ }
+    ensures { λ r. ⌜ r ≡ sameOutcome (now (bytes .entry)) start (analyseOutcome answer (lentAll (centres .entry) (values .entry) (energies .entry) (work .entry) (middles .entry) (numbers .entry) (certainties .entry) (shapeless .entry) (starts .entry) (ends .entry) (keys .entry) (confidences .entry))) ⌝ }
 {
     answer_agrees(bytes, start + 1576, answer)
-        & frames_agree(bytes, start + 1664, centres, values, energies, work)
-        & estimates_agree(bytes, start + 2176, middles, numbers, certainties)
-        & segments_agree(bytes, start + 2256, starts, ends, keys, confidences)
+        & frames_agree(bytes, start + 1668, centres, values, energies, work)
+        & estimates_agree(
+            bytes,
+            start + 2180,
+            middles,
+            numbers,
+            certainties,
+            shapeless,
+        )
+        & segments_agree(bytes, start + 2280, starts, ends, keys, confidences)
 }

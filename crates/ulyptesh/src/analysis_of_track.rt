@@ -27,12 +27,13 @@ pub extern "C" fn ulyptesh_analyse(
     middles: &mut [f64],
     numbers: &mut [u8],
     certainties: &mut [f32],
+    shapeless: &mut [u8],
     starts: &mut [f64],
     ends: &mut [f64],
     keys: &mut [u8],
     confidences: &mut [f32],
 ) -> AnalyseResult
-    ensures { λ r. ⌜ Promised (given settings head (samples .entry) (window .entry) (coefficients .entry) (weights .entry) (lengths .entry) (qcoefficients .entry) (qwindows .entry)) (lentAll (centres .entry) (values .entry) (energies .entry) (work .entry) (middles .entry) (numbers .entry) (certainties .entry) (starts .entry) (ends .entry) (keys .entry) (confidences .entry)) (analyseOutcome r (lentAll (centres .exit) (values .exit) (energies .exit) (work .exit) (middles .exit) (numbers .exit) (certainties .exit) (starts .exit) (ends .exit) (keys .exit) (confidences .exit))) ⌝ }
+    ensures { λ r. ⌜ Promised (given settings head (samples .entry) (window .entry) (coefficients .entry) (weights .entry) (lengths .entry) (qcoefficients .entry) (qwindows .entry)) (lentAll (centres .entry) (values .entry) (energies .entry) (work .entry) (middles .entry) (numbers .entry) (certainties .entry) (shapeless .entry) (starts .entry) (ends .entry) (keys .entry) (confidences .entry)) (analyseOutcome r (lentAll (centres .exit) (values .exit) (energies .exit) (work .exit) (middles .exit) (numbers .exit) (certainties .exit) (shapeless .exit) (starts .exit) (ends .exit) (keys .exit) (confidences .exit))) ⌝ }
 {
     analyse(
         settings,
@@ -51,6 +52,7 @@ pub extern "C" fn ulyptesh_analyse(
         middles,
         numbers,
         certainties,
+        shapeless,
         starts,
         ends,
         keys,

@@ -19,9 +19,9 @@ faint medians = le (sumOf 12 medians) epsilon
 unfoldable pub tunedOf : List Float → List (List Float) → ℕ → List Float
 tunedOf medians values count = normalizedOf (retunedOf medians (tuningOf values count))
 
--- of the track's chroma: the key that its scores tell, and the confidence in it
+-- of the track's chroma: the key that its scores tell, the confidence in it, and whether it has no shape
 unfoldable pub verdictOf : List Float → List (List Float) → ℕ → Verdict
 verdictOf medians values count =
     let chroma = tunedOf medians values count in
     let c = classifiedOf chroma in
-    record { key = c .key; confidence = certaintyOf c; chroma = chroma }
+    record { key = c .key; confidence = certaintyOf c; shapeless = c .shapeless; chroma = chroma }

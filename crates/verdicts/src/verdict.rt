@@ -11,10 +11,11 @@ use keys::Key;
 use numbers::twelve::sum_of_twelve;
 use whitening::levels::normalize_chroma;
 
-// The track's chroma, its key and the confidence in it.
+// The track's chroma, whether it has no shape, its key and the confidence in it.
 pub struct Verdict {
     pub key: Key,
     pub confidence: f32,
+    pub shapeless: bool,
     pub chroma: [f32; 12],
 }
 
@@ -46,6 +47,7 @@ pub fn judge_medians(medians: &[f32; 12], values: &[[f32; 12]], count: usize) ->
     Verdict {
         key,
         confidence: key_confidence(told.best, told.second),
+        shapeless: told.shapeless,
         chroma,
     }
 }

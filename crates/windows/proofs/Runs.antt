@@ -11,6 +11,7 @@ use Rattle.laws.specs.First.{first}
 use Rattle.laws.specs.Values.{plusZero}
 use Rattle.laws.proofs.First.{first-start, first-again, first-out, first-end}
 use Rattle.laws.proofs.Column.{Column, column-start, column-more}
+use Rattle.numbers.specs.Flags.{oneIf}
 use Rattle.keys.specs.Numbers.{keyNumber}
 use Rattle.windows.specs.Span.{startOf}
 use Rattle.gathering.specs.Gather.{Heard, heard}
@@ -28,8 +29,8 @@ use Rattle.windows.proofs.Found.{after-silent, after-heard}
 use Rattle.gathering.proofs.Known.{known-start, known-skip, known-later, known-heard}
 use Rattle.windows.proofs.Starts.{start-first, start-next, stuck-here}
 
-same-rows : {a b : EstimateRows} → a .centres ≡ b .centres → a .keys ≡ b .keys → a .confidences ≡ b .confidences → a ≡ b
-same-rows p q r = λ i. estimateRows (p i) (q i) (r i)
+same-rows : {a b : EstimateRows} → a .centres ≡ b .centres → a .keys ≡ b .keys → a .confidences ≡ b .confidences → a .shapeless ≡ b .shapeless → a ≡ b
+same-rows p q r t = λ i. estimateRows (p i) (q i) (r i) (t i)
 
 -- The n estimates of the windows before k stand in the lent rows.
 pub record Holds (s : Span) (h : Heard) (before now : EstimateRows) (k n : ℕ) : Type 0 where
@@ -38,6 +39,7 @@ pub record Holds (s : Span) (h : Heard) (before now : EstimateRows) (k n : ℕ) 
   pub centres : Column (λ (e : Estimate). e .centre) (estimatesBefore s h k) (before .centres) (now .centres)
   pub keys : Column (λ (e : Estimate). keyNumber (e .key)) (estimatesBefore s h k) (before .keys) (now .keys)
   pub confidences : Column (λ (e : Estimate). e .confidence) (estimatesBefore s h k) (before .confidences) (now .confidences)
+  pub shapeless : Column (λ (e : Estimate). oneIf (e .shapeless)) (estimatesBefore s h k) (before .shapeless) (now .shapeless)
 
 module _ {s : Span} {h : Heard} {before now : EstimateRows} {k n windows : ℕ} (ready : Ready h before windows) (inside : k < windows) (holds : Holds s h before now k n) where
   -- of what a window leaves, by whether it is silent
@@ -51,6 +53,7 @@ module _ {s : Span} {h : Heard} {before now : EstimateRows} {k n windows : ℕ} 
         centres = rw e (holds .centres);
         keys = rw e (holds .keys);
         confidences = rw e (holds .confidences);
+        shapeless = rw e (holds .shapeless);
       })
   left-by false q =
       let e = after-heard s h k q in
@@ -61,6 +64,7 @@ module _ {s : Span} {h : Heard} {before now : EstimateRows} {k n windows : ℕ} 
         centres = rw e (column-more _ _ found n (holds .count) (omega (arith, ready .centres, holds .few)) (holds .centres));
         keys = rw e (column-more _ _ found n (holds .count) (omega (arith, ready .keys, holds .few)) (holds .keys));
         confidences = rw e (column-more _ _ found n (holds .count) (omega (arith, ready .confidences, holds .few)) (holds .confidences));
+        shapeless = rw e (column-more _ _ found n (holds .count) (omega (arith, ready .shapeless, holds .few)) (holds .shapeless));
       })
 
   holds-next : {start : Float} {m : ℕ} {after : EstimateRows} → start ≡ startOf s k → wrote m after ≡ windowWritten s h start n now → Holds s h before after (k + 1) m
@@ -90,13 +94,14 @@ reached-start s {h} {windows} {before} ready all =
         centres = column-start _ _;
         keys = column-start _ _;
         confidences = column-start _ _;
+        shapeless = column-start _ _;
       };
     }
 
 -- what is held where the run ends at k
 held-at : {now : EstimateRows} {s : Span} {h : Heard} {before : EstimateRows} {k n : ℕ} (answer : ℕ → Estimated) → Holds s h before now k n → let found = estimatesBefore s h k in swept (answer n) now ≡ swept (answer (length found)) (holdingEstimates found before)
 held-at {now} answer holds =
-    ap (λ (m : ℕ). swept (answer m) now) (holds .count) ∙ ap (swept _) (same-rows (holds .centres .here) (holds .keys .here) (holds .confidences .here))
+    ap (λ (m : ℕ). swept (answer m) now) (holds .count) ∙ ap (swept _) (same-rows (holds .centres .here) (holds .keys .here) (holds .confidences .here) (holds .shapeless .here))
 
 module _ {s : Span} {h : Heard} {windows : ℕ} {before now : EstimateRows} {a : Ahead} {start : Float} {k n : ℕ} (reached : Reached s h windows before now a start k n) where
   pub reached-end : windows ≤ k → swept (All n) now ≡ sweptOf s h windows before

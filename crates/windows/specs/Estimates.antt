@@ -7,4 +7,4 @@ use Rattle.timeline.specs.declared.estimate.Estimate.{Estimate}
 
 -- a window's estimate: the summed chroma is normalised and classified
 unfoldable pub estimateOf : Float → List Float → Estimate
-estimateOf centre chroma = let c = classifiedOf (normalizedOf chroma) in record { centre = centre; key = c .key; confidence = certaintyOf c }
+estimateOf centre chroma = let c = classifiedOf (normalizedOf chroma) in record { centre = centre; key = c .key; confidence = certaintyOf c; shapeless = c .shapeless }

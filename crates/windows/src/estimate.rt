@@ -17,5 +17,6 @@ pub fn estimate_of(centre: f64, chroma: [f32; 12]) -> Estimate
         centre,
         key,
         confidence: key_confidence(told.best, told.second),
+        shapeless: told.shapeless,
     }
 }

@@ -31,9 +31,10 @@ fn write_window(
     middles: &mut [f64],
     keys: &mut [u8],
     confidences: &mut [f32],
+    shapeless: &mut [u8],
 ) -> usize
-    requires { ⌜ (ahead .frames ≤ length (now centres)) × (ahead .frames ≤ length (now values)) × Known (heard (ahead .frames) (now centres) (now values)) ahead start × (n < length (now middles)) × (n < length (now keys)) × (n < length (now confidences)) ⌝ }
-    ensures { λ r. ⌜ wrote r (lentEstimates (middles .exit) (keys .exit) (confidences .exit)) ≡ windowWritten span (heard (ahead .frames) (now (centres .entry)) (now (values .entry))) start n (lentEstimates (middles .entry) (keys .entry) (confidences .entry)) ⌝ }
+    requires { ⌜ (ahead .frames ≤ length (now centres)) × (ahead .frames ≤ length (now values)) × Known (heard (ahead .frames) (now centres) (now values)) ahead start × (n < length (now middles)) × (n < length (now keys)) × (n < length (now confidences)) × (n < length (now shapeless)) ⌝ }
+    ensures { λ r. ⌜ wrote r (lentEstimates (middles .exit) (keys .exit) (confidences .exit) (shapeless .exit)) ≡ windowWritten span (heard (ahead .frames) (now (centres .entry)) (now (values .entry))) start n (lentEstimates (middles .entry) (keys .entry) (confidences .entry) (shapeless .entry)) ⌝ }
 {
     let found = gather_window(start, start + span.window, ahead, centres, values);
     if found.frames == 0 {
@@ -41,7 +42,7 @@ fn write_window(
     }
     let chroma = found.chroma;
     let estimate = estimate_of(start + span.window / 2.0, chroma);
-    put_estimate(estimate, n, middles, keys, confidences);
+    put_estimate(estimate, n, middles, keys, confidences, shapeless);
     n + 1
 }
 
@@ -55,9 +56,10 @@ pub fn fill_estimates(
     middles: &mut [f64],
     keys: &mut [u8],
     confidences: &mut [f32],
+    shapeless: &mut [u8],
 ) -> Estimated
-    requires { ⌜ Ready (heard frames (now centres) (now values)) (lentEstimates middles keys confidences) windows ⌝ }
-    ensures { λ r. ⌜ swept r (lentEstimates (middles .exit) (keys .exit) (confidences .exit)) ≡ sweptOf span (heard frames (now (centres .entry)) (now (values .entry))) windows (lentEstimates (middles .entry) (keys .entry) (confidences .entry)) ⌝ }
+    requires { ⌜ Ready (heard frames (now centres) (now values)) (lentEstimates middles keys confidences shapeless) windows ⌝ }
+    ensures { λ r. ⌜ swept r (lentEstimates (middles .exit) (keys .exit) (confidences .exit) (shapeless .exit)) ≡ sweptOf span (heard frames (now (centres .entry)) (now (values .entry))) windows (lentEstimates (middles .entry) (keys .entry) (confidences .entry) (shapeless .entry)) ⌝ }
 {
     let mut ahead = look_ahead(frames, centres);
     let mut start = 0.0;
@@ -75,6 +77,7 @@ pub fn fill_estimates(
             middles,
             keys,
             confidences,
+            shapeless,
         );
         let later = start + span.hop;
         if !(start < later) {

@@ -13,6 +13,12 @@ cast-number c = search needs
 key-confidence-requires : tie.Need-key-confidence-requires
 key-confidence-requires c κs = search needs
 
+one-if-requires : tie.Need-one-if-requires
+one-if-requires c κs = search needs
+
+cast-shapeless : tie.Need-cast-shapeless
+cast-shapeless c = search needs
+
 add-word-at : tie.Need-add-word-at
 add-word-at c = search needs
 
@@ -46,11 +52,19 @@ value-at-requires-3 c κs = search needs
 same-value-requires-3 : tie.Need-same-value-requires-3
 same-value-requires-3 c κs = search needs
 
+add-word-at-2 : tie.Need-add-word-at-2
+add-word-at-2 c = search needs
+
+word-at-requires-2 : tie.Need-word-at-requires-2
+word-at-requires-2 c κs = search needs
+
 returns : tie.Need-returns
 unfolding sameKey
 returns c =
-    let word = c .before .before .before .before .before .before in
-    rw (c .same-value3 .ensures, c .before .value-at3 .ensures, c .before .before .same-value2 .ensures, c .before .before .before .value-at2 .ensures, c .before .before .before .before .same-value .ensures, c .before .before .before .before .before .value-at .ensures, word .word-at .ensures, word .before .key-confidence .ensures, word .before .before .key-number .ensures)
+    let values = c .before in
+    let word = values .before .before .before .before .before .before in
+    let told = word .before in
+    rw (c .word-at2 .ensures, values .same-value3 .ensures, values .before .value-at3 .ensures, values .before .before .same-value2 .ensures, values .before .before .before .value-at2 .ensures, values .before .before .before .before .same-value .ensures, values .before .before .before .before .before .value-at .ensures, word .word-at .ensures, told .one-if .ensures, told .before .key-confidence .ensures, told .before .before .key-number .ensures)
 
 pub key-agrees-spec : {M : Type 1} → statement M
 key-agrees-spec =
@@ -59,6 +73,8 @@ key-agrees-spec =
     key-number-requires
     cast-number
     key-confidence-requires
+    one-if-requires
+    cast-shapeless
     add-word-at
     word-at-requires
     add-value-at
@@ -70,4 +86,6 @@ key-agrees-spec =
     add-value-at-3
     value-at-requires-3
     same-value-requires-3
+    add-word-at-2
+    word-at-requires-2
     returns)

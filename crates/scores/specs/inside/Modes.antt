@@ -3,6 +3,7 @@ use Prim.Native.Nat.{ℕ, _+_, _*_}
 use mathlib.Core.List.{List}
 use lib.ListN.{getD}
 use lib.Ieee.{Float, nan}
+use Rattle.laws.specs.Every.{anyBelow}
 use Rattle.laws.specs.Turns.{turns}
 use Rattle.laws.specs.Front.{list}
 use Rattle.laws.specs.Values.{plusZero}
@@ -11,12 +12,22 @@ use Rattle.correlations.specs.Correlation.{meanOf}
 use Rattle.correlations.specs.inside.Deviations.{wheelOf}
 use Rattle.correlations.specs.inside.Divisors.{divisorOf}
 use Rattle.correlations.specs.inside.Lanes.{alike, twelve, turnedOf}
+use Rattle.correlations.specs.declared.correlation.Divisor.{Divisor}
 use Rattle.scores.specs.Profiles.{profileAt}
 use Rattle.scores.specs.inside.Constants.{energies, placeAt}
+use Rattle.scores.specs.declared.scoring.Divisors.{Divisors}
 
--- the divisor for each energy, from the chroma's
-unfoldable pub divisorsOf : Float → List Float
-divisorsOf chromaEnergy = list (λ (k : ℕ). divisorOf chromaEnergy (getD energies k nan)) 17
+-- the divisor for energy k, from the chroma's
+abbrev pub divisorFor : Float → ℕ → Divisor
+divisorFor chromaEnergy k = divisorOf chromaEnergy (getD energies k nan)
+
+-- all of them, and whether one is held up
+unfoldable pub divisorsOf : Float → Divisors
+divisorsOf chromaEnergy =
+    record {
+      values = list (λ (k : ℕ). divisorFor chromaEnergy k .value) 17;
+      «held_up» = anyBelow (λ (k : ℕ). divisorFor chromaEnergy k .«held_up») 17;
+    }
 
 -- those of the profile in a row, by root
 unfoldable pub divisorsAt : List Float → ℕ → List Float

@@ -53,3 +53,4 @@ pub record Ready (h : Heard) (before : EstimateRows) (windows : ℕ) : Type 0 wh
   pub centres : windows ≤ length (before .centres)
   pub keys : windows ≤ length (before .keys)
   pub confidences : windows ≤ length (before .confidences)
+  pub shapeless : windows ≤ length (before .shapeless)

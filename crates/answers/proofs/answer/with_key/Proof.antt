@@ -9,8 +9,14 @@ key-number-requires c κs = search needs
 cast-key : tie.Need-cast-key
 cast-key c = search needs
 
+one-if-requires : tie.Need-one-if-requires
+one-if-requires c κs = search needs
+
+cast-t9 : tie.Need-cast-t9
+cast-t9 c = search needs
+
 returns : tie.Need-returns
-returns c = rw (c .before .key-number .ensures)
+returns c = rw (c .one-if .ensures, c .before .before .key-number .ensures)
 
 pub with-key-spec : {M : Type 1} → statement M
-with-key-spec = tie.close (tie.spec key-number-requires cast-key returns)
+with-key-spec = tie.close (tie.spec key-number-requires cast-key one-if-requires cast-t9 returns)

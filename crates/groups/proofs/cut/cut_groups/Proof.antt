@@ -4,7 +4,7 @@ use mathlib.Core.Path.{_≡_, sym, ap, _∙_}
 use Prim.Native.Nat.{ℕ, _-_}
 use native.Mathlib.Omega.{arith}
 use lib.Ieee.{ofBits}
-use Rattle.timeline.specs.inside.Estimates.{estimateRows}
+use Rattle.timeline.specs.inside.Estimates.{columns}
 use Rattle.timeline.specs.inside.Segments.{segmentRows, putSegment}
 use Rattle.groups.specs.inside.Written.{groupIn}
 use Rattle.groups.specs.declared.cut.Group.{Group}
@@ -14,7 +14,7 @@ use Rattle.groups.proofs.cut.cut_groups.Tie as tie
 
 abbrev Inv-loop : tie.InvT-loop
 Inv-loop threshold duration found middles numbers certainties starts₀ ends₀ keys₀ confidences₀ last from₀ start₀ n₀ j₀ starts ends keys confidences from start n j =
-    Cut (estimateRows middles numbers certainties) threshold found (segmentRows starts₀ ends₀ keys₀ confidences₀) (segmentRows starts ends keys confidences) from start n j
+    Cut (columns middles numbers certainties) threshold found (segmentRows starts₀ ends₀ keys₀ confidences₀) (segmentRows starts ends keys confidences) from start n j
 
 abbrev μ-loop : tie.MeasureT-loop
 μ-loop threshold duration found middles numbers certainties starts₀ ends₀ keys₀ confidences₀ last from₀ start₀ n₀ j₀ starts ends keys confidences from start n j = found - 1 - j

@@ -15,7 +15,7 @@ choose-key-requires c κs = search needs
 
 returns : tie.Need-returns
 unfolding classifiedOf
-returns c = rw (c .choose-key .ensures, c .before .before .before .find-places .ensures, c .before .before .before .before .before .score-keys .ensures)
+returns c = rw (c .choose-key .ensures, c .before .before .before .find-places .ensures, c .before .before .before .before .before .before .score-keys .ensures)
 
 pub classify-key-spec : {M : Type 1} → statement M
 classify-key-spec =

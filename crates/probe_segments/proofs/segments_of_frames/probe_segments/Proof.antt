@@ -43,15 +43,18 @@ same-length-6 c = search needs
 same-length-7 : tie.Need-same-length-7
 same-length-7 c = search needs
 
+same-length-8 : tie.Need-same-length-8
+same-length-8 c = search needs
+
 returns : tie.Need-returns
 returns c =
     let fit = c .before in
     let room = fit .before in
     let lent = room .before .before .before .before .before in
-    let asked = lent .before .before .before .before in
+    let asked = lent .before .before .before .before .before in
     let span = asked .before in
-    let args = span .before .before .before .before .before .before .before .before .before .args in
-    little-room (args .settings) (args .samples) (probedTrack (args .settings) (args .samples) (args .key) (args .confidence)) (args .centres .now) (args .values .now) (estimateRows (args .middles .now) (args .numbers .now) (args .certainties .now)) (segmentRows (args .starts .now) (args .ends .now) (args .keys .now) (args .confidences .now)) (span .span-of .ensures) (asked .rows-asked .ensures) (lent .estimate-room .ensures) (room .segment-room .ensures) (fit .fits-in .ensures) (c .if1 .taken)
+    let args = span .before .before .before .before .before .before .before .before .before .before .args in
+    little-room (args .settings) (args .samples) (probedTrack (args .settings) (args .samples) (args .key) (args .confidence)) (args .centres .now) (args .values .now) (estimateRows (args .middles .now) (args .numbers .now) (args .certainties .now) (args .shapeless .now)) (segmentRows (args .starts .now) (args .ends .now) (args .keys .now) (args .confidences .now)) (span .span-of .ensures) (asked .rows-asked .ensures) (lent .estimate-room .ensures) (room .segment-room .ensures) (fit .fits-in .ensures) (c .if1 .taken)
 
 probed-track-requires : tie.Need-probed-track-requires
 probed-track-requires c κs = search needs
@@ -61,21 +64,18 @@ fewer-requires c κs = search needs
 
 locate-segments-requires : tie.Need-locate-segments-requires
 locate-segments-requires c κs =
-    let few = c .before .before .before .before .before .before .before in
+    let few = c .before .before .before .before .before .before .before .before in
     let guard = few .before .before in
     let fit = guard .before in
     let room = fit .before in
     let lent = room .before .before .before .before .before in
-    let asked = lent .before .before .before .before in
+    let asked = lent .before .before .before .before .before in
     let span = asked .before in
-    let args = span .before .before .before .before .before .before .before .before .before .args in
-    locate-needs (args .settings) (args .samples) (probedTrack (args .settings) (args .samples) (args .key) (args .confidence)) (args .centres .now) (args .values .now) (estimateRows (args .middles .now) (args .numbers .now) (args .certainties .now)) (segmentRows (args .starts .now) (args .ends .now) (args .keys .now) (args .confidences .now)) (span .span-of .ensures) (asked .rows-asked .ensures) (lent .estimate-room .ensures) (room .segment-room .ensures) (fit .fits-in .ensures) (guard .if1 .left) (few .fewer .ensures)
+    let args = span .before .before .before .before .before .before .before .before .before .before .args in
+    locate-needs (args .settings) (args .samples) (probedTrack (args .settings) (args .samples) (args .key) (args .confidence)) (args .centres .now) (args .values .now) (estimateRows (args .middles .now) (args .numbers .now) (args .certainties .now) (args .shapeless .now)) (segmentRows (args .starts .now) (args .ends .now) (args .keys .now) (args .confidences .now)) (span .span-of .ensures) (asked .rows-asked .ensures) (lent .estimate-room .ensures) (room .segment-room .ensures) (fit .fits-in .ensures) (guard .if1 .left) (few .fewer .ensures)
 
 counted-by-requires : tie.Need-counted-by-requires
 counted-by-requires c κs = search needs
-
-same-length-8 : tie.Need-same-length-8
-same-length-8 c = search needs
 
 same-length-9 : tie.Need-same-length-9
 same-length-9 c = search needs
@@ -95,19 +95,25 @@ same-length-13 c = search needs
 same-length-14 : tie.Need-same-length-14
 same-length-14 c = search needs
 
+same-length-15 : tie.Need-same-length-15
+same-length-15 c = search needs
+
+same-length-16 : tie.Need-same-length-16
+same-length-16 c = search needs
+
 returns-2 : tie.Need-returns-2
 returns-2 c =
-    let locate = c .before .before .before .before .before .before .before .before .before .before .before .before .before .before .before in
-    let few = locate .before .before .before .before .before .before .before .before in
+    let locate = c .before .before .before .before .before .before .before .before .before .before .before .before .before .before .before .before .before in
+    let few = locate .before .before .before .before .before .before .before .before .before in
     let track = few .before in
     let guard = track .before in
     let fit = guard .before in
     let room = fit .before in
     let lent = room .before .before .before .before .before in
-    let asked = lent .before .before .before .before in
+    let asked = lent .before .before .before .before .before in
     let span = asked .before in
-    let args = span .before .before .before .before .before .before .before .before .before .args in
-    located-so (args .settings) (args .samples) (probedTrack (args .settings) (args .samples) (args .key) (args .confidence)) (args .centres .now) (args .values .now) (estimateRows (args .middles .now) (args .numbers .now) (args .certainties .now)) (segmentRows (args .starts .now) (args .ends .now) (args .keys .now) (args .confidences .now)) (span .span-of .ensures) (asked .rows-asked .ensures) (lent .estimate-room .ensures) (room .segment-room .ensures) (fit .fits-in .ensures) (guard .if1 .left) (few .fewer .ensures) (track .probed-track .ensures) (locate .locate-segments .ensures) (c .counted-by .ensures)
+    let args = span .before .before .before .before .before .before .before .before .before .before .args in
+    located-so (args .settings) (args .samples) (probedTrack (args .settings) (args .samples) (args .key) (args .confidence)) (args .centres .now) (args .values .now) (estimateRows (args .middles .now) (args .numbers .now) (args .certainties .now) (args .shapeless .now)) (segmentRows (args .starts .now) (args .ends .now) (args .keys .now) (args .confidences .now)) (span .span-of .ensures) (asked .rows-asked .ensures) (lent .estimate-room .ensures) (room .segment-room .ensures) (fit .fits-in .ensures) (guard .if1 .left) (few .fewer .ensures) (track .probed-track .ensures) (locate .locate-segments .ensures) (c .counted-by .ensures)
 
 pub probe-segments-spec : {M : Type 1} → statement M
 probe-segments-spec =
@@ -125,16 +131,18 @@ probe-segments-spec =
     same-length-5
     same-length-6
     same-length-7
+    same-length-8
     returns
     probed-track-requires
     fewer-requires
     locate-segments-requires
     counted-by-requires
-    same-length-8
     same-length-9
     same-length-10
     same-length-11
     same-length-12
     same-length-13
     same-length-14
+    same-length-15
+    same-length-16
     returns-2)

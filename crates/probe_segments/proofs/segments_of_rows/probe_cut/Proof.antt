@@ -1,6 +1,6 @@
 -- Past both guards the estimates fit and all keys are numbers.
 use borrow.Author.Needs.{needs}
-use Rattle.timeline.specs.inside.Estimates.{estimateRows}
+use Rattle.timeline.specs.inside.Estimates.{columns}
 use Rattle.timeline.specs.inside.Segments.{segmentRows}
 use Rattle.probe_segments.specs.Segments.{trackOf}
 use Rattle.probe_segments.proofs.Segmenting.{not-fit, not-numbered, cut-needs, cut-so}
@@ -29,7 +29,7 @@ returns : tie.Need-returns
 returns c =
     let room = c .before .before in
     let args = room .before .before .before .before .before .before .before .before .before .before .before .before .args in
-    not-fit (trackOf (args .threshold) (args .minimum) (args .duration) (args .key) (args .confidence)) (estimateRows (args .middles .now) (args .numbers .now) (args .certainties .now)) (segmentRows (args .starts .now) (args .ends .now) (args .keys .now) (args .confidences .now)) (room .segment-room .ensures) (c .before .cut-fits .ensures) (c .if1 .taken)
+    not-fit (trackOf (args .threshold) (args .minimum) (args .duration) (args .key) (args .confidence)) (columns (args .middles .now) (args .numbers .now) (args .certainties .now)) (segmentRows (args .starts .now) (args .ends .now) (args .keys .now) (args .confidences .now)) (room .segment-room .ensures) (c .before .cut-fits .ensures) (c .if1 .taken)
 
 all-numbers-requires : tie.Need-all-numbers-requires
 all-numbers-requires c κs = search needs
@@ -51,7 +51,7 @@ returns-2 c =
     let fit = c .before .before in
     let room = fit .before .before in
     let args = room .before .before .before .before .before .before .before .before .before .before .before .before .args in
-    not-numbered (trackOf (args .threshold) (args .minimum) (args .duration) (args .key) (args .confidence)) (estimateRows (args .middles .now) (args .numbers .now) (args .certainties .now)) (segmentRows (args .starts .now) (args .ends .now) (args .keys .now) (args .confidences .now)) (room .segment-room .ensures) (fit .before .cut-fits .ensures) (fit .if1 .left) (c .before .all-numbers .ensures) (c .if2 .taken)
+    not-numbered (trackOf (args .threshold) (args .minimum) (args .duration) (args .key) (args .confidence)) (columns (args .middles .now) (args .numbers .now) (args .certainties .now)) (segmentRows (args .starts .now) (args .ends .now) (args .keys .now) (args .confidences .now)) (room .segment-room .ensures) (fit .before .cut-fits .ensures) (fit .if1 .left) (c .before .all-numbers .ensures) (c .if2 .taken)
 
 track-of-requires : tie.Need-track-of-requires
 track-of-requires c κs = search needs
@@ -62,7 +62,7 @@ fill-segments-requires c κs =
     let fit = guard .before .before in
     let room = fit .before .before in
     let args = room .before .before .before .before .before .before .before .before .before .before .before .before .args in
-    cut-needs (trackOf (args .threshold) (args .minimum) (args .duration) (args .key) (args .confidence)) (estimateRows (args .middles .now) (args .numbers .now) (args .certainties .now)) (segmentRows (args .starts .now) (args .ends .now) (args .keys .now) (args .confidences .now)) (room .segment-room .ensures) (fit .before .cut-fits .ensures) (fit .if1 .left) (guard .before .all-numbers .ensures) (guard .if2 .left)
+    cut-needs (trackOf (args .threshold) (args .minimum) (args .duration) (args .key) (args .confidence)) (columns (args .middles .now) (args .numbers .now) (args .certainties .now)) (segmentRows (args .starts .now) (args .ends .now) (args .keys .now) (args .confidences .now)) (room .segment-room .ensures) (fit .before .cut-fits .ensures) (fit .if1 .left) (guard .before .all-numbers .ensures) (guard .if2 .left)
 
 same-length-9 : tie.Need-same-length-9
 same-length-9 c = search needs
@@ -84,7 +84,7 @@ returns-3 c =
     let fit = guard .before .before in
     let room = fit .before .before in
     let args = room .before .before .before .before .before .before .before .before .before .before .before .before .args in
-    cut-so (trackOf (args .threshold) (args .minimum) (args .duration) (args .key) (args .confidence)) (estimateRows (args .middles .now) (args .numbers .now) (args .certainties .now)) (segmentRows (args .starts .now) (args .ends .now) (args .keys .now) (args .confidences .now)) (room .segment-room .ensures) (fit .before .cut-fits .ensures) (fit .if1 .left) (guard .before .all-numbers .ensures) (guard .if2 .left) (track .track-of .ensures) (fill .fill-segments .ensures)
+    cut-so (trackOf (args .threshold) (args .minimum) (args .duration) (args .key) (args .confidence)) (columns (args .middles .now) (args .numbers .now) (args .certainties .now)) (segmentRows (args .starts .now) (args .ends .now) (args .keys .now) (args .confidences .now)) (room .segment-room .ensures) (fit .before .cut-fits .ensures) (fit .if1 .left) (guard .before .all-numbers .ensures) (guard .if2 .left) (track .track-of .ensures) (fill .fill-segments .ensures)
 
 pub probe-cut-spec : {M : Type 1} → statement M
 probe-cut-spec =

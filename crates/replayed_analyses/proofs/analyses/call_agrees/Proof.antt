@@ -8,11 +8,11 @@ use Rattle.replayed_analyses.proofs.analyses.call_agrees.Tie as tie
 
 -- where the analysis is made, seen from where all its rows are lent again
 abbrev made : tie.After-confidences3 → tie.After-analyse
-made c = c .before .before .before .before .before .before .before .before .before .before .before .before .before .before .before .before .before .before .before .before .before .before
+made c = c .before .before .before .before .before .before .before .before .before .before .before .before .before .before .before .before .before .before .before .before .before .before .before .before
 
 -- the call's start, seen from there
 abbrev start : tie.After-analyse → tie.Start
-start c = c .before .before .before .before .before .before .before .before .before .before .before .before .before .before .before .before .before .before .before .before
+start c = c .before .before .before .before .before .before .before .before .before .before .before .before .before .before .before .before .before .before .before .before .before
 
 slice-aggregate-analyse : tie.Need-slice-aggregate-analyse
 slice-aggregate-analyse c = search needs
@@ -46,6 +46,9 @@ slice-aggregate-analyse-10 c = search needs
 
 slice-aggregate-analyse-11 : tie.Need-slice-aggregate-analyse-11
 slice-aggregate-analyse-11 c = search needs
+
+slice-aggregate-analyse-12 : tie.Need-slice-aggregate-analyse-12
+slice-aggregate-analyse-12 c = search needs
 
 analyse-requires : tie.Need-analyse-requires
 analyse-requires c κs = search needs
@@ -83,6 +86,9 @@ slice-aggregate-outcome-agrees-10 c = search needs
 slice-aggregate-outcome-agrees-11 : tie.Need-slice-aggregate-outcome-agrees-11
 slice-aggregate-outcome-agrees-11 c = search needs
 
+slice-aggregate-outcome-agrees-12 : tie.Need-slice-aggregate-outcome-agrees-12
+slice-aggregate-outcome-agrees-12 c = search needs
+
 outcome-agrees-requires : tie.Need-outcome-agrees-requires
 outcome-agrees-requires c κs = (
   start (made c) .pre,
@@ -94,6 +100,7 @@ outcome-agrees-requires c κs = (
     middles = search needs;
     numbers = search needs;
     certainties = search needs;
+    shapeless = search needs;
     starts = search needs;
     ends = search needs;
     keys = search needs;
@@ -120,6 +127,7 @@ call-agrees-spec =
     slice-aggregate-analyse-9
     slice-aggregate-analyse-10
     slice-aggregate-analyse-11
+    slice-aggregate-analyse-12
     analyse-requires
     slice-aggregate-outcome-agrees
     slice-aggregate-outcome-agrees-2
@@ -132,5 +140,6 @@ call-agrees-spec =
     slice-aggregate-outcome-agrees-9
     slice-aggregate-outcome-agrees-10
     slice-aggregate-outcome-agrees-11
+    slice-aggregate-outcome-agrees-12
     outcome-agrees-requires
     returns)

@@ -16,8 +16,8 @@ track-of-requires c κs = search needs
 
 locate-segments-requires : tie.Need-locate-segments-requires
 locate-segments-requires c κs =
-    let track = c .before .before .before .before .before .before .before in
-    prepared-span (track .before .span-of .ensures) (track .before .before .before .before .before .before .before .before .before .before .pre)
+    let track = c .before .before .before .before .before .before .before .before in
+    prepared-span (track .before .span-of .ensures) (track .before .before .before .before .before .before .before .before .before .before .before .pre)
 
 enum-known-estimates : tie.Need-enum-known-estimates
 enum-known-estimates c = search needs
@@ -30,11 +30,11 @@ enum-known-estimates-2 c = search needs
 
 name-keys-requires : tie.Need-name-keys-requires
 name-keys-requires c κs =
-    let locate = c .before .before .before .before .before .before .before .before .before .before .before .before .before .before .before .before .before .before .before .before .before in
-    let track = locate .before .before .before .before .before .before .before .before in
-    let start = track .before .before .before .before .before .before .before .before .before .before in
+    let locate = c .before .before .before .before .before .before .before .before .before .before .before .before .before .before .before .before .before .before .before .before .before .before .before in
+    let track = locate .before .before .before .before .before .before .before .before .before in
+    let start = track .before .before .before .before .before .before .before .before .before .before .before in
     let args = start .args in
-    told-room (track .before .span-of .result) (track .track-of .result) (heard (args .frames) (args .centres .now) (args .values .now)) (estimateRows (args .middles .now) (args .numbers .now) (args .certainties .now)) (segmentRows (args .starts .now) (args .ends .now) (args .keys .now) (args .confidences .now)) (c .before .before .before .before .before .estimates2 .given .1) (locate .locate-segments .ensures)
+    told-room (track .before .span-of .result) (track .track-of .result) (heard (args .frames) (args .centres .now) (args .values .now)) (estimateRows (args .middles .now) (args .numbers .now) (args .certainties .now) (args .shapeless .now)) (segmentRows (args .starts .now) (args .ends .now) (args .keys .now) (args .confidences .now)) (c .before .before .before .before .before .estimates2 .given .1) (locate .locate-segments .ensures)
 
 same-length : tie.Need-same-length
 same-length c = search needs
@@ -57,16 +57,16 @@ same-length-6 c = search needs
 same-length-7 : tie.Need-same-length-7
 same-length-7 c = search needs
 
-returns : tie.Need-returns
-returns c =
-    let locate = c .before .before .before .before .before .before .before .before .before .before .before .before .before .before .before .before .before .before in
-    let track = locate .before .before .before .before .before .before .before .before in
-    let start = track .before .before .before .before .before .before .before .before .before .before in
-    let args = start .args in
-    halted-so (args .settings) (args .samples) (args .verdict) (heard (args .frames) (args .centres .now) (args .values .now)) (estimateRows (args .middles .now) (args .numbers .now) (args .certainties .now)) (segmentRows (args .starts .now) (args .ends .now) (args .keys .now) (args .confidences .now)) (track .before .span-of .ensures) (track .track-of .ensures) (c .before .before .estimates .given .1) (locate .locate-segments .ensures) (c .keyless .ensures)
-
 same-length-8 : tie.Need-same-length-8
 same-length-8 c = search needs
+
+returns : tie.Need-returns
+returns c =
+    let locate = c .before .before .before .before .before .before .before .before .before .before .before .before .before .before .before .before .before .before .before .before in
+    let track = locate .before .before .before .before .before .before .before .before .before in
+    let start = track .before .before .before .before .before .before .before .before .before .before .before in
+    let args = start .args in
+    halted-so (args .settings) (args .samples) (args .verdict) (heard (args .frames) (args .centres .now) (args .values .now)) (estimateRows (args .middles .now) (args .numbers .now) (args .certainties .now) (args .shapeless .now)) (segmentRows (args .starts .now) (args .ends .now) (args .keys .now) (args .confidences .now)) (track .before .span-of .ensures) (track .track-of .ensures) (c .before .before .estimates .given .1) (locate .locate-segments .ensures) (c .keyless .ensures)
 
 same-length-9 : tie.Need-same-length-9
 same-length-9 c = search needs
@@ -86,13 +86,19 @@ same-length-13 c = search needs
 same-length-14 : tie.Need-same-length-14
 same-length-14 c = search needs
 
+same-length-15 : tie.Need-same-length-15
+same-length-15 c = search needs
+
+same-length-16 : tie.Need-same-length-16
+same-length-16 c = search needs
+
 returns-2 : tie.Need-returns-2
 returns-2 c =
-    let locate = c .before .before .before .before .before .before .before .before .before .before .before .before .before .before .before .before .before .before .before .before .before .before in
-    let track = locate .before .before .before .before .before .before .before .before in
-    let start = track .before .before .before .before .before .before .before .before .before .before in
+    let locate = c .before .before .before .before .before .before .before .before .before .before .before .before .before .before .before .before .before .before .before .before .before .before .before .before in
+    let track = locate .before .before .before .before .before .before .before .before .before in
+    let start = track .before .before .before .before .before .before .before .before .before .before .before in
     let args = start .args in
-    told-so (args .settings) (args .samples) (args .verdict) (heard (args .frames) (args .centres .now) (args .values .now)) (estimateRows (args .middles .now) (args .numbers .now) (args .certainties .now)) (segmentRows (args .starts .now) (args .ends .now) (args .keys .now) (args .confidences .now)) (track .before .span-of .ensures) (track .track-of .ensures) (c .before .before .before .before .before .before .estimates2 .given .1) (locate .locate-segments .ensures) (c .name-keys .ensures)
+    told-so (args .settings) (args .samples) (args .verdict) (heard (args .frames) (args .centres .now) (args .values .now)) (estimateRows (args .middles .now) (args .numbers .now) (args .certainties .now) (args .shapeless .now)) (segmentRows (args .starts .now) (args .ends .now) (args .keys .now) (args .confidences .now)) (track .before .span-of .ensures) (track .track-of .ensures) (c .before .before .before .before .before .before .estimates2 .given .1) (locate .locate-segments .ensures) (c .name-keys .ensures)
 
 pub report-track-spec : {M : Type 1} → statement M
 report-track-spec =
@@ -112,12 +118,14 @@ report-track-spec =
     same-length-5
     same-length-6
     same-length-7
-    returns
     same-length-8
+    returns
     same-length-9
     same-length-10
     same-length-11
     same-length-12
     same-length-13
     same-length-14
+    same-length-15
+    same-length-16
     returns-2)

@@ -1,18 +1,20 @@
 -- The array is written from the front, a score a turn.
 use borrow.Author.Needs.{needs}
-use mathlib.Core.Path.{refl, _∙_}
+use mathlib.Core.Path.{refl, ap, _∙_}
 use native.Mathlib.Omega.{arith}
 use Prim.Native.Nat.{_≤_, _-_}
 use Rattle.laws.proofs.Front.{Filled, filled-start, filled-more, filled-whole}
+use Rattle.scores.specs.declared.scoring.Divisors.{Divisors}
 use Rattle.scores.proofs.Modes.{quarter, scored}
+use Rattle.scores.proofs.Shapes.{shaped}
 use Rattle.scores.proofs.scoring.score_keys.Statement.{statement}
 use Rattle.scores.proofs.scoring.score_keys.Tie as tie
 
 abbrev Inv-loop : tie.InvT-loop
-Inv-loop chroma sums scores₀ k₀ scores k = (k ≤ 24) × Filled (quarter sums) scores₀ scores k
+Inv-loop chroma divisors sums scores₀ k₀ scores k = (k ≤ 24) × Filled (quarter sums) scores₀ scores k
 
 abbrev μ-loop : tie.MeasureT-loop
-μ-loop chroma sums scores₀ k₀ scores k = 24 - k
+μ-loop chroma divisors sums scores₀ k₀ scores k = 24 - k
 
 mean-requires : tie.Need-mean-requires Inv-loop μ-loop
 mean-requires c κs = search needs
@@ -23,8 +25,8 @@ deviations-requires c κs = search needs
 energy-requires : tie.Need-energy-requires Inv-loop μ-loop
 energy-requires c κs = search needs
 
-divisors-requires : tie.Need-divisors-requires Inv-loop μ-loop
-divisors-requires c κs = search needs
+divisors-for-requires : tie.Need-divisors-for-requires Inv-loop μ-loop
+divisors-for-requires c κs = search needs
 
 sum-mode-requires : tie.Need-sum-mode-requires Inv-loop μ-loop
 sum-mode-requires c κs = search needs
@@ -66,12 +68,19 @@ returns : tie.Need-returns Inv-loop μ-loop
 returns c =
     let minor = c .before .before in
     let major = minor .before .before .before in
-    let divided = major .before .before .before in
+    let divided = major .before .before .before .before in
     let squares = divided .before in
     let away = squares .before .before in
     let start = away .before .before in
+    let chroma = start .args .chroma .now in
+    let mean = away .before .mean .ensures in
+    let energy = squares .energy .ensures in
+    let divisors = divided .divisors-for .ensures in
+    let scores =
     filled-whole _ _ _ (c .before .loop .k) 24 (c .before .loop .inv .1) (omega arith) refl
-    ∙ scored (start .args .chroma .now) (away .before .mean .ensures) (away .deviations .ensures) (squares .energy .ensures) (divided .divisors .ensures) (major .sum-mode .ensures) (minor .sum-mode2 .ensures)
+    ∙ scored chroma mean (away .deviations .ensures) energy (ap (λ (d : Divisors). d .values) divisors) (major .sum-mode .ensures) (minor .sum-mode2 .ensures) in
+    let held = shaped chroma mean (away .deviations .ensures) energy (ap (λ (d : Divisors). d .«held_up») divisors) in
+    λ i. record { scores = scores i; shapeless = held i }
 
 pub score-keys-spec : {M : Type 1} → statement M
 score-keys-spec =
@@ -82,7 +91,7 @@ score-keys-spec =
     mean-requires
     deviations-requires
     energy-requires
-    divisors-requires
+    divisors-for-requires
     sum-mode-requires
     sum-mode-requires-2
     loop-holds

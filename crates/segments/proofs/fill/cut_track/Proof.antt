@@ -1,7 +1,7 @@
 -- Groups where there is an estimate, the whole track where there is none.
 use borrow.Author.Needs.{needs}
 use lib.Ieee.{ofBits}
-use Rattle.timeline.specs.inside.Estimates.{estimateRows}
+use Rattle.timeline.specs.inside.Estimates.{columns}
 use Rattle.timeline.specs.inside.Segments.{segmentRows}
 use Rattle.segments.proofs.Fills.{groups-cut, whole-cut}
 use Rattle.segments.proofs.fill.cut_track.Statement.{statement}
@@ -26,7 +26,7 @@ returns : tie.Need-returns
 returns c =
     let cut = c .before .before .before .before .before .before .before .before in
     let args = cut .before .before .before .before .before .before .before .before .before .before .before .before .before .args in
-    groups-cut (args .track) (estimateRows (args .middles .now) (args .numbers .now) (args .certainties .now)) (args .found) (segmentRows (args .starts .now) (args .ends .now) (args .keys .now) (args .confidences .now)) (cut .before .before .before .before .before .if1 .taken) (cut .cut-groups .ensures)
+    groups-cut (args .track) (columns (args .middles .now) (args .numbers .now) (args .certainties .now)) (args .found) (segmentRows (args .starts .now) (args .ends .now) (args .keys .now) (args .confidences .now)) (cut .before .before .before .before .before .if1 .taken) (cut .cut-groups .ensures)
 
 put-segment-requires : tie.Need-put-segment-requires
 put-segment-requires c κs = search needs
@@ -49,7 +49,7 @@ returns-2 c =
     let put = c .before .before .before .before .before .before .before .before in
     let start = put .before .before .before .before .before .before .before .before .before .before .before .before .before .before in
     let args = start .args in
-    whole-cut (args .track) (estimateRows (args .middles .now) (args .numbers .now) (args .certainties .now)) (args .found) (segmentRows (args .starts .now) (args .ends .now) (args .keys .now) (args .confidences .now)) (put .before .before .before .before .before .before .if1 .left) (start .pre .2) (put .put-segment .ensures)
+    whole-cut (args .track) (columns (args .middles .now) (args .numbers .now) (args .certainties .now)) (args .found) (segmentRows (args .starts .now) (args .ends .now) (args .keys .now) (args .confidences .now)) (put .before .before .before .before .before .before .if1 .left) (start .pre .2) (put .put-segment .ensures)
 
 pub cut-track-spec : {M : Type 1} → statement M
 cut-track-spec =

@@ -1,6 +1,6 @@
 -- The rows that hold the cut segments are shortened as the segments are.
 use borrow.Author.Needs.{needs}
-use Rattle.timeline.specs.inside.Estimates.{estimateRows, estimatesIn}
+use Rattle.timeline.specs.inside.Estimates.{columns, estimatesIn}
 use Rattle.timeline.specs.inside.Segments.{segmentRows}
 use Rattle.segments.specs.inside.Fill.{cutOf, filledOf}
 use Rattle.segments.proofs.Fills.{cut-room, cut-numbered, settled-same}
@@ -14,7 +14,7 @@ shorten-segments-requires : tie.Need-shorten-segments-requires
 shorten-segments-requires c κs =
     let cut = c .before .before .before .before .before .before .before .before .before .before .before .before in
     let args = cut .before .before .before .before .before .before .before .before .before .before .before .before .args in
-    let segments = cutOf (args .track) (estimatesIn (estimateRows (args .middles .now) (args .numbers .now) (args .certainties .now)) (args .found)) in
+    let segments = cutOf (args .track) (estimatesIn (columns (args .middles .now) (args .numbers .now) (args .certainties .now)) (args .found)) in
     (cut-room segments (segmentRows (args .starts .now) (args .ends .now) (args .keys .now) (args .confidences .now)) (cut .cut-track .ensures), cut-numbered segments (segmentRows (args .starts .now) (args .ends .now) (args .keys .now) (args .confidences .now)) (cut .cut-track .ensures))
 
 same-length : tie.Need-same-length
@@ -35,7 +35,7 @@ returns c =
     let short = c .before .before .before .before .before .before .before .before in
     let cut = short .before .before .before .before .before .before .before .before .before .before .before .before .before in
     let args = cut .before .before .before .before .before .before .before .before .before .before .before .before .args in
-    let segments = cutOf (args .track) (estimatesIn (estimateRows (args .middles .now) (args .numbers .now) (args .certainties .now)) (args .found)) in
+    let segments = cutOf (args .track) (estimatesIn (columns (args .middles .now) (args .numbers .now) (args .certainties .now)) (args .found)) in
     settled-same segments (segmentRows (args .starts .now) (args .ends .now) (args .keys .now) (args .confidences .now)) (cut .cut-track .ensures) (args .track .minimum) (short .shorten-segments .ensures)
 
 pub fill-segments-spec : {M : Type 1} → statement M

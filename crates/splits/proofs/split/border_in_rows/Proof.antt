@@ -1,21 +1,28 @@
--- What the calls ensure, put together.
+-- The definition, read off.
 use borrow.Author.Needs.{needs}
+use lib.Ieee.{ofBits, add, div}
+use Rattle.splits.specs.Splits.{borderOf}
+use Rattle.splits.specs.inside.Columns.{borderIn}
 use Rattle.splits.proofs.split.border_in_rows.Statement.{statement}
 use Rattle.splits.proofs.split.border_in_rows.Tie as tie
 
-estimate-at-requires : tie.Need-estimate-at-requires
-estimate-at-requires c κs = search needs
+mul-result : tie.Need-mul-result
+mul-result c = search needs
 
-estimate-at-requires-2 : tie.Need-estimate-at-requires-2
-estimate-at-requires-2 c κs = search needs
+shared-slice-read-result : tie.Need-shared-slice-read-result
+shared-slice-read-result c = search needs
 
-border-between-requires : tie.Need-border-between-requires
-border-between-requires c κs = search needs
+mul-result-2 : tie.Need-mul-result-2
+mul-result-2 c = search needs
+
+shared-slice-read-result-2 : tie.Need-shared-slice-read-result-2
+shared-slice-read-result-2 c = search needs
 
 returns : tie.Need-returns
-returns c = cc
+unfolding borderIn borderOf ofBits add div
+returns c = search needs
 
 pub border-in-rows-spec : {M : Type 1} → statement M
 border-in-rows-spec =
     tie.close
-    (tie.spec estimate-at-requires estimate-at-requires-2 border-between-requires returns)
+    (tie.spec mul-result shared-slice-read-result mul-result-2 shared-slice-read-result-2 returns)

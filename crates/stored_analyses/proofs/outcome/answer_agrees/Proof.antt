@@ -16,6 +16,9 @@ cast-t9 c = search needs
 cast-t10 : tie.Need-cast-t10
 cast-t10 c = search needs
 
+cast-t11 : tie.Need-cast-t11
+cast-t11 c = search needs
+
 slice-aggregate-counts-agree : tie.Need-slice-aggregate-counts-agree
 slice-aggregate-counts-agree c = search needs
 
@@ -49,6 +52,7 @@ answer-agrees-spec =
     cast-t8
     cast-t9
     cast-t10
+    cast-t11
     slice-aggregate-counts-agree
     counts-agree-requires
     add-values-agree

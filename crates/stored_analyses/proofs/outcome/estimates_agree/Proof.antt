@@ -19,6 +19,12 @@ add-values-agree c = search needs
 values-agree-requires : tie.Need-values-agree-requires
 values-agree-requires c κs = search needs
 
+add-numbers-agree-2 : tie.Need-add-numbers-agree-2
+add-numbers-agree-2 c = search needs
+
+numbers-agree-requires-2 : tie.Need-numbers-agree-requires-2
+numbers-agree-requires-2 c κs = search needs
+
 returns : tie.Need-returns
 unfolding sameEstimates
 returns c = cc
@@ -32,4 +38,6 @@ estimates-agree-spec =
     numbers-agree-requires
     add-values-agree
     values-agree-requires
+    add-numbers-agree-2
+    numbers-agree-requires-2
     returns)

@@ -30,7 +30,7 @@ segments-agree-requires c κs = search needs
 
 returns : tie.Need-returns
 unfolding sameOutcome
-returns c = cc
+returns c = rw (c .segments-agree .ensures, c .before .estimates-agree .ensures, c .before .before .frames-agree .ensures, c .before .before .before .answer-agrees .ensures)
 
 pub outcome-agrees-spec : {M : Type 1} → statement M
 outcome-agrees-spec =

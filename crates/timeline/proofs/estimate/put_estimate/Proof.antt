@@ -21,6 +21,12 @@ mul-confidences c = search needs
 slice-write-confidences : tie.Need-slice-write-confidences
 slice-write-confidences c = search needs
 
+one-if-requires : tie.Need-one-if-requires
+one-if-requires c κs = search needs
+
+slice-write-shapeless : tie.Need-slice-write-shapeless
+slice-write-shapeless c = search needs
+
 same-length : tie.Need-same-length
 same-length c = search needs
 
@@ -29,6 +35,9 @@ same-length-2 c = search needs
 
 same-length-3 : tie.Need-same-length-3
 same-length-3 c = search needs
+
+same-length-4 : tie.Need-same-length-4
+same-length-4 c = search needs
 
 returns : tie.Need-returns
 returns c = cc
@@ -43,7 +52,10 @@ put-estimate-spec =
     slice-write-keys
     mul-confidences
     slice-write-confidences
+    one-if-requires
+    slice-write-shapeless
     same-length
     same-length-2
     same-length-3
+    same-length-4
     returns)

@@ -15,7 +15,7 @@ key-confidence-requires c κs = search needs
 
 returns : tie.Need-returns
 unfolding estimateOf
-returns c = cc
+returns c = rw (c .key-confidence .ensures, c .before .before .classify-key .ensures, c .before .before .before .before .normalize-chroma .ensures)
 
 pub estimate-of-spec : {M : Type 1} → statement M
 estimate-of-spec =

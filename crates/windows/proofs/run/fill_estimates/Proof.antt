@@ -11,35 +11,35 @@ use Rattle.windows.proofs.run.fill_estimates.Statement.{statement}
 use Rattle.windows.proofs.run.fill_estimates.Tie as tie
 
 abbrev Inv-loop : tie.InvT-loop
-Inv-loop span windows frames centres values middles₀ keys₀ confidences₀ ahead₀ start₀ k₀ n₀ middles keys confidences ahead start k n =
+Inv-loop span windows frames centres values middles₀ keys₀ confidences₀ shapeless₀ ahead₀ start₀ k₀ n₀ middles keys confidences shapeless ahead start k n =
     Reached
     span
     (heard frames centres values)
     windows
-    (estimateRows middles₀ keys₀ confidences₀)
-    (estimateRows middles keys confidences)
+    (estimateRows middles₀ keys₀ confidences₀ shapeless₀)
+    (estimateRows middles keys confidences shapeless)
     ahead
     start
     k
     n
 
 abbrev μ-loop : tie.MeasureT-loop
-μ-loop span windows frames centres values middles₀ keys₀ confidences₀ ahead₀ start₀ k₀ n₀ middles keys confidences ahead start k n =
+μ-loop span windows frames centres values middles₀ keys₀ confidences₀ shapeless₀ ahead₀ start₀ k₀ n₀ middles keys confidences shapeless ahead start k n =
     windows - k
 
 look-ahead-requires : tie.Need-look-ahead-requires Inv-loop μ-loop
-look-ahead-requires c κs = c .before .before .before .before .pre .timed
+look-ahead-requires c κs = c .before .before .before .before .before .pre .timed
 
 loop-holds : tie.Need-loop-holds Inv-loop μ-loop
 unfolding ofBits
-loop-holds c = let start = c .before .before .before .before .before in reached-start (start .args .span) (start .pre) (c .look-ahead .ensures)
+loop-holds c = let start = c .before .before .before .before .before .before in reached-start (start .args .span) (start .pre) (c .look-ahead .ensures)
 
 skip-frames-requires : tie.Need-skip-frames-requires Inv-loop μ-loop
 skip-frames-requires c κs = let r = c .before .loop .inv in omega (arith, r .known .count, r .ready .timed)
 
 write-window-requires : tie.Need-write-window-requires Inv-loop μ-loop
 write-window-requires c κs =
-    let skip = c .before .before .before in
+    let skip = c .before .before .before .before in
     let r = skip .before .before .loop .inv in
     let inside = skip .before .loop-test .taken in
     let known = reached-known r inside (skip .skip-frames .ensures) in (
@@ -49,58 +49,69 @@ write-window-requires c κs =
       omega (arith, inside, r .holds .few, r .holds .centres .long, r .ready .centres),
       omega (arith, inside, r .holds .few, r .holds .keys .long, r .ready .keys),
       omega (arith, inside, r .holds .few, r .holds .confidences .long, r .ready .confidences),
+      omega (arith, inside, r .holds .few, r .holds .shapeless .long, r .ready .shapeless),
     )
 
 -- of a window that was written
 module _ (c : tie.After-write-window Inv-loop μ-loop) where
   abbrev skip : tie.After-skip-frames Inv-loop μ-loop
-  skip = c .before .before .before .before
+  skip = c .before .before .before .before .before
 
   abbrev turn : tie.At-loop Inv-loop μ-loop
   turn = skip .before .before
 
-  abbrev inside : turn .loop .k < turn .before .before .before .before .before .before .args .windows
+  abbrev inside : turn .loop .k < turn .before .before .before .before .before .before .before .args .windows
   inside = skip .before .loop-test .taken
 
 same-length : tie.Need-same-length Inv-loop μ-loop
 same-length c =
-    let written = c .before .before .before .before .before .before .before .before in
+    let written = c .before .before .before .before .before .before .before .before .before .before in
     reached-held (turn written .loop .inv) (inside written) (skip written .skip-frames .ensures) (written .write-window .ensures) .centres .long
 
 same-length-2 : tie.Need-same-length-2 Inv-loop μ-loop
 same-length-2 c =
-    let written = c .before .before .before .before .before .before .before .before in
+    let written = c .before .before .before .before .before .before .before .before .before .before in
     reached-held (turn written .loop .inv) (inside written) (skip written .skip-frames .ensures) (written .write-window .ensures) .keys .long
 
 same-length-3 : tie.Need-same-length-3 Inv-loop μ-loop
 same-length-3 c =
-    let written = c .before .before .before .before .before .before .before .before in
+    let written = c .before .before .before .before .before .before .before .before .before .before in
     reached-held (turn written .loop .inv) (inside written) (skip written .skip-frames .ensures) (written .write-window .ensures) .confidences .long
+
+same-length-4 : tie.Need-same-length-4 Inv-loop μ-loop
+same-length-4 c =
+    let written = c .before .before .before .before .before .before .before .before .before .before in
+    reached-held (turn written .loop .inv) (inside written) (skip written .skip-frames .ensures) (written .write-window .ensures) .shapeless .long
 
 returns : tie.Need-returns Inv-loop μ-loop
 returns c =
-    let written = c .before .before .before .before .before .before .before .before in
+    let written = c .before .before .before .before .before .before .before .before .before .before in
     reached-stuck (turn written .loop .inv) (inside written) (skip written .skip-frames .ensures) (written .write-window .ensures) (c .if1 .taken)
 
 add-k : tie.Need-add-k Inv-loop μ-loop
-add-k c = search needs
+add-k c =
+    let written = c .before .before .before .before .before .before .before .before .before .before in
+    omega (arith, inside written, turn written .before .before .before .before .before .before .before .fits)
 
 loop-less : tie.Need-loop-less Inv-loop μ-loop
 loop-less c = search needs
 
 loop-again : tie.Need-loop-again Inv-loop μ-loop
 loop-again c =
-    let written = c .before .before .before .before .before .before .before .before in
+    let written = c .before .before .before .before .before .before .before .before .before .before in
     reached-again (turn written .loop .inv) (inside written) (skip written .skip-frames .ensures) (written .write-window .ensures) (c .if1 .left)
 
-same-length-4 : tie.Need-same-length-4 Inv-loop μ-loop
-same-length-4 c = c .before .loop .inv .holds .centres .long
-
 same-length-5 : tie.Need-same-length-5 Inv-loop μ-loop
-same-length-5 c = c .before .loop .inv .holds .keys .long
+same-length-5 c = c .before .loop .inv .holds .centres .long
 
 same-length-6 : tie.Need-same-length-6 Inv-loop μ-loop
-same-length-6 c = c .before .loop .inv .holds .confidences .long
+same-length-6 c = c .before .loop .inv .holds .keys .long
+
+same-length-7 : tie.Need-same-length-7 Inv-loop μ-loop
+same-length-7 c = c .before .loop .inv .holds .confidences .long
+
+same-length-8 : tie.Need-same-length-8 Inv-loop μ-loop
+same-length-8 c = c .before .loop .inv .holds .shapeless .long
 
 returns-2 : tie.Need-returns-2 Inv-loop μ-loop
 returns-2 c = reached-end (c .before .loop .inv) (c .loop-test .left)
@@ -118,11 +129,13 @@ fill-estimates-spec =
     same-length
     same-length-2
     same-length-3
+    same-length-4
     returns
     add-k
     loop-less
     loop-again
-    same-length-4
     same-length-5
     same-length-6
+    same-length-7
+    same-length-8
     returns-2)

@@ -39,7 +39,7 @@ gather-window-requires c κs = search needs
 
 returns : tie.Need-returns
 returns c =
-    let asked = c .before .before .before .before .before .before .before .before .args in
+    let asked = c .before .before .before .before .before .before .before .before .before .args in
     left-silent (asked .span) (heard (asked .ahead .frames) (asked .centres .now) (asked .values .now)) (asked .start) (asked .n) _ (c .before .before .gather-window .ensures) (eq-eqb _ _ (c .if1 .taken))
 
 estimate-of-requires : tie.Need-estimate-of-requires
@@ -49,7 +49,7 @@ put-estimate-requires : tie.Need-put-estimate-requires
 put-estimate-requires c κs = search needs
 
 add-result : tie.Need-add-result
-add-result c = let asked = c .before .before .before .before .before .before .before .before .before .before .before .before .before .before .before .before .before .before .before .before .before in omega (arith, asked .pre, asked .fits)
+add-result c = let asked = c .before .before .before .before .before .before .before .before .before .before .before .before .before .before .before .before .before .before .before .before .before .before .before .before .before in omega (arith, asked .pre, asked .fits)
 
 same-length : tie.Need-same-length
 same-length c = search needs
@@ -60,12 +60,15 @@ same-length-2 c = search needs
 same-length-3 : tie.Need-same-length-3
 same-length-3 c = search needs
 
+same-length-4 : tie.Need-same-length-4
+same-length-4 c = search needs
+
 returns-2 : tie.Need-returns-2
 unfolding ofBits
 returns-2 c =
-    let put = c .before .before .before .before .before .before in
-    let found = put .before .before .before .before in
-    let asked = found .before .before .before .before .before .before .before .before .before .before .before .args in
+    let put = c .before .before .before .before .before .before .before .before in
+    let found = put .before .before .before .before .before in
+    let asked = found .before .before .before .before .before .before .before .before .before .before .before .before .args in
     left-written (asked .span) (heard (asked .ahead .frames) (asked .centres .now) (asked .values .now)) (asked .start) (asked .n) _ (found .before .before .before .before .before .gather-window .ensures) (ne-eqb _ _ (found .before .before .before .if1 .left)) (found .estimate-of .ensures) (put .put-estimate .ensures)
 
 pub write-window-spec : {M : Type 1} → statement M
@@ -80,4 +83,5 @@ write-window-spec =
     same-length
     same-length-2
     same-length-3
+    same-length-4
     returns-2)
