@@ -15,7 +15,12 @@
 
    An answer of more than 16 bytes is written behind the call's first pointer, which the call also returns.
 
-   A key's number is its tonic (0 for C to 11 for B) where it is major, and 12 + tonic where it is minor. */
+   A key's number is its tonic (0 for C to 11 for B) where it is major, and 12 + tonic where it is minor.
+
+   A chroma has no shape where its numbers are so nearly equal, or all so small, that no key stands out: in at least one
+   of its 96 correlations (24 keys, four profiles each) the divisor, the root of the product of the two energies, was
+   below 2^-23 or a NaN, and 2^-23 stood in for it. One with a NaN or an infinity is such a chroma. Its key, confidence
+   and scores are answered as for any other, and say little. Cards do not tell it. */
 #ifndef ULYPTESH_H
 #define ULYPTESH_H
 
@@ -33,7 +38,7 @@ extern "C" {
 /* The number of the interface; it grows when a struct, a parameter or a meaning changes, and ulyptesh_abi answers the
    library's own. A new call leaves it, so a program that loads the library at run time compares the two, and looks up a
    call that is newer by its name. */
-#define ULYPTESH_ABI 1
+#define ULYPTESH_ABI 2
 /* Numbers in a chroma, from C upward. */
 #define ULYPTESH_PITCH_CLASSES 12
 /* Keys, and so scores of a chroma. */
@@ -119,6 +124,7 @@ typedef struct UlypteshSheetHead {
 /* refusal: 0 or the number of a UlypteshRefusal, here and below. */
 typedef struct UlypteshScoresResult {
     uint32_t refusal;
+    uint32_t shapeless; /* 1 where the chroma has no shape, else 0, as where the call is refused */
 } UlypteshScoresResult;
 
 /* The key of a chroma: the one with the highest score, or its relative key where that one is second by at most 0.05 and
@@ -130,6 +136,7 @@ typedef struct UlypteshKeyResult {
     float best; /* the highest of the 24 scores: where the relative key is taken, not its own but the other key's */
     float second; /* the next one; as best it leaves NaNs out, and is -infinity where no score is left */
     float confidence; /* in the highest score over the next one, from 0 to 1; a NaN where no score is a number */
+    uint32_t shapeless; /* 1 where the chroma has no shape, else 0 */
 } UlypteshKeyResult;
 
 /* length: how many bytes were written; 0 where the call is refused. */
@@ -154,6 +161,7 @@ typedef struct UlypteshAnalyseResult {
     uint32_t alternate; /* another key that much of the track is in, or 24 */
     float coverage; /* the part of the track that is in the alternate, or 0 */
     float confidence; /* of the key, from 0 to 1; a NaN is not ruled out */
+    uint32_t shapeless; /* 1 where the track's chroma has no shape, else 0, as without a key */
     uint64_t frames, estimates, segments; /* how many rows of each kind are written */
     float chroma[ULYPTESH_PITCH_CLASSES]; /* of the whole track; a NaN is not ruled out */
 } UlypteshAnalyseResult;
@@ -206,6 +214,7 @@ UlypteshAnalyseResult *ulyptesh_analyse(
     double *middles, size_t middle_count, /* W; the estimates' middles in seconds, from the front */
     uint8_t *numbers, size_t number_count, /* W; their keys, from the front */
     float *certainties, size_t certainty_count, /* W; their confidences, from the front; a NaN is not ruled out */
+    uint8_t *shapeless, size_t shapeless_count, /* W; 1 for each whose chroma has no shape, else 0, from the front */
     double *starts, size_t start_count, /* W; the segments' starts in seconds, then a zero for each one joined away */
     double *ends, size_t end_count, /* W; their ends in seconds, then zeros likewise */
     uint8_t *keys, size_t key_count, /* W; their keys, then zeros likewise */
@@ -268,8 +277,8 @@ uint32_t ulyptesh_abi(void);
     typedef char type##_has_another_size_in_the_library[sizeof(type) == (bytes) ? 1 : -1]
 ULYPTESH_IS_OF(UlypteshSettings, 48);
 ULYPTESH_IS_OF(UlypteshSheetHead, 16);
-ULYPTESH_IS_OF(UlypteshScoresResult, 4);
-ULYPTESH_IS_OF(UlypteshKeyResult, 20);
+ULYPTESH_IS_OF(UlypteshScoresResult, 8);
+ULYPTESH_IS_OF(UlypteshKeyResult, 24);
 ULYPTESH_IS_OF(UlypteshWritten, 16);
 ULYPTESH_IS_OF(UlypteshFramesResult, 24);
 ULYPTESH_IS_OF(UlypteshAnalyseResult, 112);

@@ -112,6 +112,14 @@ pub mod expose {
     pub fn correlation(chroma: &[f32; 12], profile: &[f32; 12], root: usize) -> f32 {
         super::correlation(chroma, profile, root)
     }
+    /// The divisor of `correlation` before the floor may replace it.
+    pub fn divisor(chroma: &[f32; 12], profile: &[f32; 12], root: usize) -> f32 {
+        super::numerator_and_divisor(chroma, profile, root).1
+    }
+    /// The profiles that a chroma is correlated with at each root: the major and the minor one of each pair.
+    pub fn key_profiles() -> &'static [(&'static [f32; 12], &'static [f32; 12])] {
+        super::key_profiles()
+    }
     pub fn classify_key_impl(chroma: &[f32; 12]) -> (MusicalKey, f32, f32, [f32; 24]) {
         super::classify_key_impl(chroma)
     }
@@ -154,6 +162,14 @@ pub mod expose {
             .map(|e| (e.center_seconds, e.key, e.confidence))
             .collect()
     }
+    /// The chromas that the same estimates were classified from.
+    pub fn estimated_chromas(frames: &[ChromaFrame], duration: f64, c: KeyConfig) -> Vec<[f32; 12]> {
+        let (window, hop) = (c.local_window_seconds.into(), c.local_hop_seconds.into());
+        super::local_estimates(frames, duration, window, hop)
+            .into_iter()
+            .map(|e| e.chroma)
+            .collect()
+    }
     /// What `estimate_segments` makes of these estimates.
     pub fn segments_of_estimates(
         estimates: &[Estimate],
@@ -165,6 +181,7 @@ pub mod expose {
         let local: Vec<LocalEstimate> = estimates
             .iter()
             .map(|&(center_seconds, key, confidence)| LocalEstimate {
+                chroma: [0.0; 12],
                 center_seconds,
                 key,
                 confidence,
@@ -177,6 +194,7 @@ pub mod expose {
         let estimates: Vec<LocalEstimate> = keys
             .iter()
             .map(|&key| LocalEstimate {
+                chroma: [0.0; 12],
                 center_seconds: 0.0,
                 key,
                 confidence: 0.0,

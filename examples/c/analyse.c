@@ -65,6 +65,18 @@ static void print_keys(const UlypteshAnalyseResult *told)
     printf("alternate: %s, %.3f of the track\n", ulyptesh_easy_key_name(told->alternate, name), told->coverage);
 }
 
+/* Where the chroma of the track, or of some windows, is so even that no key stands out; nothing where none is. */
+static void print_shapes(const UlypteshEasy *easy, const UlypteshAnalyseResult *told)
+{
+    if (told->shapeless)
+        printf("the chroma has no shape: its key says little\n");
+    for (size_t number = 0; number < told->estimates; number++) {
+        UlypteshEasyEstimate estimate = ulyptesh_easy_estimate(easy, number);
+        if (estimate.shapeless)
+            printf("no shape in the window around %.3f s: its key says little\n", estimate.middle);
+    }
+}
+
 static void print_segments(const UlypteshEasy *easy, size_t count)
 {
     char name[ULYPTESH_EASY_NAME_BYTES];
@@ -121,6 +133,7 @@ static int run(UlypteshEasy *easy)
     if (!accepted("the analysis", ulyptesh_easy_analyse(easy, samples, SAMPLES, &told)))
         return 0;
     print_keys(&told);
+    print_shapes(easy, &told);
     print_segments(easy, told.segments);
     return print_scores(told.chroma) && print_card(easy) && print_first_second(easy, samples);
 }

@@ -64,7 +64,8 @@ static UlypteshAnalyseResult analysed(UlypteshSettings settings, UlypteshSheetHe
     const float *track = samples > 0 ? tone : NULL, *values = window > 0 ? tone : NULL;
     UlypteshAnalyseResult told;
     ulyptesh_analyse(&told, settings, head, track, samples, values, window, NULL, 0, NULL, 0, NULL, 0, NULL, 0, NULL, 0,
-                     NULL, 0, NULL, 0, NULL, 0, NULL, 0, NULL, 0, NULL, 0, NULL, 0, NULL, 0, NULL, 0, NULL, 0, NULL, 0);
+                     NULL, 0, NULL, 0, NULL, 0, NULL, 0, NULL, 0, NULL, 0, NULL, 0, NULL, 0, NULL, 0, NULL, 0, NULL, 0,
+                     NULL, 0);
     return told;
 }
 
@@ -96,10 +97,12 @@ static int no_slices(void)
                                                         NULL, 0, NULL, 0, NULL, 0, NULL, 0, NULL, 0);
     UlypteshCardRead read;
     ulyptesh_read_card(&read, NULL, 0, NULL, 0, NULL, 0, NULL, 0, NULL, 0);
+    UlypteshScoresResult scored = ulyptesh_scores(NULL, 0, NULL, 0);
     return HOLDS(told.refusal == ULYPTESH_DONE && told.key == ULYPTESH_NO_KEY && told.segments == 0)
+        && HOLDS(told.shapeless == 0 && found.shapeless == 0 && scored.shapeless == 0)
         && HOLDS(frames.refusal == ULYPTESH_DONE && frames.count == 0)
         && HOLDS(found.refusal == ULYPTESH_WRONG_LENGTH && found.key == ULYPTESH_NO_KEY)
-        && HOLDS(ulyptesh_scores(NULL, 0, NULL, 0).refusal == ULYPTESH_WRONG_LENGTH)
+        && HOLDS(scored.refusal == ULYPTESH_WRONG_LENGTH)
         && HOLDS(ulyptesh_write_key_name(0, NULL, 0).refusal == ULYPTESH_TOO_FEW_BYTES)
         && HOLDS(card.refusal == ULYPTESH_TOO_FEW_BYTES && card.length == 0)
         && HOLDS(packed.refusal == ULYPTESH_TOO_FEW_BYTES && packed.length == 0)
@@ -131,23 +134,79 @@ static int some_slices(void)
         && HOLDS(card.refusal == ULYPTESH_DONE && card.length == sizeof bytes);
 }
 
+/* Rows for a track; those for shapes are 9 before each analysis. */
+static double centres[ROOM], middles[ROOM], starts[ROOM], ends[ROOM];
+static float values[ROOM][ULYPTESH_PITCH_CLASSES], energies[ROOM], work[ROOM], certainties[ROOM], confidences[ROOM];
+static uint8_t numbers[ROOM], shapeless[ROOM], keys[ROOM];
+
+/* An analysis over these rows, of which so many are for shapes, by a sheet of Goertzel rows alone. */
+static UlypteshAnalyseResult analysed_by(UlypteshSettings settings, const float *samples, size_t sample_count,
+                                         const float *window, const float *coefficients, const float *weights,
+                                         size_t rows, size_t shapeless_rows)
+{
+    UlypteshAnalyseResult told;
+    memset(shapeless, 9, sizeof shapeless);
+    ulyptesh_analyse(&told, settings, head_for(settings), samples, sample_count, window, settings.frame_size,
+                     coefficients, rows, weights, rows, NULL, 0, NULL, 0, NULL, 0, centres, ROOM, values, ROOM,
+                     energies, ROOM, work, ROOM, middles, ROOM, numbers, ROOM, certainties, ROOM, shapeless,
+                     shapeless_rows, starts, ROOM, ends, ROOM, keys, ROOM, confidences, ROOM);
+    return told;
+}
+
+/* Whether so many rows for shapes have this mark, and those behind them stay. */
+static int marked(size_t count, uint8_t mark)
+{
+    int same = 1;
+    for (size_t at = 0; at < ROOM; at++)
+        same = same && shapeless[at] == (at < count ? mark : 9);
+    return same;
+}
+
 /* Such a sheet, and room for a track: its loud frames are found, and it tells no key. */
 static int no_rows(void)
 {
-    static double centres[ROOM], middles[ROOM], starts[ROOM], ends[ROOM];
-    static float values[ROOM][ULYPTESH_PITCH_CLASSES], energies[ROOM], work[ROOM], certainties[ROOM], confidences[ROOM];
-    static uint8_t numbers[ROOM], keys[ROOM];
     UlypteshSettings settings = rowless();
-    UlypteshSheetHead head = head_for(settings);
     UlypteshFramesResult frames;
-    UlypteshAnalyseResult told;
-    ulyptesh_frames(&frames, settings, head, tone, SHORT, tone, settings.frame_size, NULL, 0, NULL, 0, NULL, 0, NULL, 0,
-                    NULL, 0, centres, ROOM, values, ROOM, energies, ROOM);
-    ulyptesh_analyse(&told, settings, head, tone, SHORT, tone, settings.frame_size, NULL, 0, NULL, 0, NULL, 0, NULL, 0,
-                     NULL, 0, centres, ROOM, values, ROOM, energies, ROOM, work, ROOM, middles, ROOM, numbers, ROOM,
-                     certainties, ROOM, starts, ROOM, ends, ROOM, keys, ROOM, confidences, ROOM);
+    ulyptesh_frames(&frames, settings, head_for(settings), tone, SHORT, tone, settings.frame_size, NULL, 0, NULL, 0,
+                    NULL, 0, NULL, 0, NULL, 0, centres, ROOM, values, ROOM, energies, ROOM);
+    UlypteshAnalyseResult told = analysed_by(settings, tone, SHORT, tone, NULL, NULL, 0, ROOM);
     return HOLDS(frames.refusal == ULYPTESH_DONE && frames.count > 0)
-        && HOLDS(told.refusal == ULYPTESH_DONE && told.frames == frames.count && told.key == ULYPTESH_NO_KEY);
+        && HOLDS(told.refusal == ULYPTESH_DONE && told.frames == frames.count && told.key == ULYPTESH_NO_KEY)
+        && HOLDS(told.shapeless == 0 && marked(0, 0));
+}
+
+/* Half a minute that is equally strong in twelve notes, or stronger in some: a click ends each frame, which all notes
+   hear alike, and one before it they do not. It has four windows, over so many rows for their shapes. */
+static UlypteshAnalyseResult analysed_clicks(float before_last, size_t shapeless_rows)
+{
+    static const float COEFFICIENTS[12] = {2, 1, 1, 0, 1.5f, 0, -1, 1.5f, -1, 0, -2, 0};
+    static const float WEIGHTS[12] = {1, 1, 1, 1, 1, 1, 1, 1, 1, 1, 1, 1};
+    static float clicks[LONG], window[4096];
+    UlypteshSettings settings = usual();
+    settings.hop_size = settings.frame_size;
+    settings.minimum_midi_note = 60;
+    settings.maximum_midi_note = 71;
+    for (size_t at = 0; at < settings.frame_size; at++)
+        window[at] = 1.0f;
+    for (size_t end = settings.frame_size; end <= LONG; end += settings.frame_size) {
+        clicks[end - 1] = 0.5f;
+        clicks[end - 2] = before_last;
+    }
+    return analysed_by(settings, clicks, LONG, window, COEFFICIENTS, WEIGHTS, 12, shapeless_rows);
+}
+
+/* An even track and its windows have no shape, one that is not even has one, and a row too few is refused. */
+static int track_shapes(void)
+{
+    UlypteshAnalyseResult told = analysed_clicks(0.0f, 4);
+    int done = HOLDS(told.refusal == ULYPTESH_DONE && told.key < ULYPTESH_NO_KEY && told.estimates == 4)
+        && HOLDS(told.shapeless == 1 && marked(4, 1));
+    told = analysed_clicks(0.25f, ROOM);
+    done = done && HOLDS(told.refusal == ULYPTESH_DONE && told.key < ULYPTESH_NO_KEY && told.estimates == 4)
+        && HOLDS(told.shapeless == 0 && marked(4, 0));
+    told = analysed_clicks(0.0f, 3);
+    return done && HOLDS(told.refusal == ULYPTESH_TOO_FEW_ROWS && told.key == ULYPTESH_NO_KEY)
+        && HOLDS(told.shapeless == 0 && marked(0, 0));
 }
 
 /* A sheet for 44,100 Hz is refused at 48,000. */
@@ -178,6 +237,34 @@ static int no_score(void)
     ulyptesh_key(&found, chroma, ULYPTESH_PITCH_CLASSES);
     return HOLDS(found.refusal == ULYPTESH_DONE && found.key == 0) && HOLDS(isnan(found.confidence))
         && HOLDS(found.best == -INFINITY && found.second == -INFINITY);
+}
+
+/* Whether both calls say of a chroma that it has no shape, or that it has one. */
+static int is_shapeless(const float *chroma, uint32_t expected)
+{
+    float scores[ULYPTESH_KEYS];
+    UlypteshKeyResult found;
+    ulyptesh_key(&found, chroma, ULYPTESH_PITCH_CLASSES);
+    UlypteshScoresResult scored = ulyptesh_scores(chroma, ULYPTESH_PITCH_CLASSES, scores, ULYPTESH_KEYS);
+    return HOLDS(found.refusal == ULYPTESH_DONE && found.shapeless == expected)
+        && HOLDS(scored.refusal == ULYPTESH_DONE && scored.shapeless == expected);
+}
+
+/* Zeros, equal numbers, small ones, a NaN and an infinity; a triad, and one whose sum overflows; refused: room for a
+   score too few, a number too few. */
+static int chroma_shapes(void)
+{
+    static const float ZEROS[12] = {0}, EQUAL[12] = {1, 1, 1, 1, 1, 1, 1, 1, 1, 1, 1, 1}, SMALL[12] = {1e-9f},
+                       UNKNOWN[12] = {0, NAN}, ENDLESS[12] = {INFINITY}, TRIAD[12] = {1, 0, 0, 0, 1, 0, 0, 1},
+                       LARGE[12] = {3e38f, 0, 0, 0, 3e38f, 0, 0, 3e38f};
+    float scores[ULYPTESH_KEYS];
+    UlypteshKeyResult found;
+    ulyptesh_key(&found, ZEROS, ULYPTESH_PITCH_CLASSES - 1);
+    UlypteshScoresResult scored = ulyptesh_scores(ZEROS, ULYPTESH_PITCH_CLASSES, scores, ULYPTESH_KEYS - 1);
+    return is_shapeless(ZEROS, 1) && is_shapeless(EQUAL, 1) && is_shapeless(SMALL, 1) && is_shapeless(UNKNOWN, 1)
+        && is_shapeless(ENDLESS, 1) && is_shapeless(TRIAD, 0) && is_shapeless(LARGE, 0)
+        && HOLDS(found.refusal == ULYPTESH_WRONG_LENGTH && found.shapeless == 0)
+        && HOLDS(scored.refusal == ULYPTESH_WRONG_LENGTH && scored.shapeless == 0);
 }
 
 /* Cards: rows o and p of the request, a lone segment of three minutes in A minor and none at all */
@@ -416,9 +503,23 @@ static int track_refused(UlypteshEasy *easy)
     uint32_t status = ulyptesh_easy_analyse(easy, tone, SHORT, &told);
     tone[SHORT / 2] = kept;
     return HOLDS(status == ULYPTESH_FRAME_NOT_FINITE) && HOLDS(told.refusal == status && told.position == told.frames)
+        && HOLDS(told.shapeless == 0 && ulyptesh_easy_estimate(easy, 0).key == ULYPTESH_NO_KEY)
         && HOLDS(ulyptesh_easy_frame(easy, 0).energy > 0.0f)
         && HOLDS(ulyptesh_easy_segment(easy, 0).key == ULYPTESH_NO_KEY)
         && HOLDS(ulyptesh_easy_write_card(easy, card, sizeof card).refusal == ULYPTESH_UNWRITABLE);
+}
+
+/* Whether the last track has so many estimates, the first at 6 s, each in C major and with a shape. */
+static int estimates_in_c_major(const UlypteshEasy *easy, size_t count)
+{
+    UlypteshEasyEstimate none = ulyptesh_easy_estimate(easy, count);
+    int done = HOLDS(none.middle == 0.0 && none.key == ULYPTESH_NO_KEY && none.shapeless == 0);
+    for (size_t at = 0; at < count; at++) {
+        UlypteshEasyEstimate told = ulyptesh_easy_estimate(easy, at);
+        done = done && HOLDS(told.middle == 6.0 * (double)(at + 1) && told.key == 0)
+            && HOLDS(told.confidence > 0.0f && told.shapeless == 0);
+    }
+    return done;
 }
 
 /* Whether a track is told as one segment in C major, with its card. */
@@ -427,7 +528,8 @@ static int told_as_c_major(UlypteshEasy *easy, size_t samples)
     uint8_t card[ULYPTESH_CARD_BYTES(1)];
     UlypteshAnalyseResult told;
     return HOLDS(ulyptesh_easy_analyse(easy, tone, samples, &told) == ULYPTESH_DONE)
-        && HOLDS(told.key == 0 && told.segments == 1)
+        && HOLDS(told.key == 0 && told.segments == 1 && told.shapeless == 0)
+        && HOLDS(told.estimates == (samples == LONG ? 4 : 0)) && estimates_in_c_major(easy, told.estimates)
         && HOLDS(ulyptesh_easy_segment(easy, 0).end == (double)samples / RATE)
         && HOLDS(ulyptesh_easy_segment(easy, 1).key == ULYPTESH_NO_KEY)
         && HOLDS(ulyptesh_easy_write_card(easy, card, sizeof card).length == sizeof card);
@@ -463,12 +565,12 @@ static int without_allocation(int k)
     return done;
 }
 
-/* 1 for itself, 6 for its sheet, 11 for its rows. */
+/* 1 for itself, 6 for its sheet, 12 for its rows. */
 static int no_memory(void)
 {
     int done = 1;
     fill_tone();
-    for (int k = 0; k < 18; k++)
+    for (int k = 0; k < 19; k++)
         done = done && without_allocation(k);
     return done;
 }
@@ -481,9 +583,11 @@ static const struct {
     {"no-slices", no_slices},
     {"some-slices", some_slices},
     {"no-rows", no_rows},
+    {"track-shapes", track_shapes},
     {"other-sheet", other_sheet},
     {"relative-key", relative_key},
     {"no-score", no_score},
+    {"chroma-shapes", chroma_shapes},
     {"cards-read", cards_read},
     {"cards-refused", cards_refused},
     {"cards-written", cards_written},

@@ -26,6 +26,7 @@ typedef struct {
     double *middles;
     uint8_t *numbers;
     float *certainties;
+    uint8_t *shapeless;
     double *starts, *ends;
     uint8_t *keys;
     float *confidences;
@@ -192,12 +193,13 @@ static int allocate_rows(Rows *rows, size_t positions, size_t windows)
     rows->middles = zeros(windows, sizeof *rows->middles);
     rows->numbers = zeros(windows, sizeof *rows->numbers);
     rows->certainties = zeros(windows, sizeof *rows->certainties);
+    rows->shapeless = zeros(windows, sizeof *rows->shapeless);
     rows->starts = zeros(windows, sizeof *rows->starts);
     rows->ends = zeros(windows, sizeof *rows->ends);
     rows->keys = zeros(windows, sizeof *rows->keys);
     rows->confidences = zeros(windows, sizeof *rows->confidences);
     return rows->centres && rows->values && rows->energies && rows->work && rows->middles && rows->numbers
-        && rows->certainties && rows->starts && rows->ends && rows->keys && rows->confidences;
+        && rows->certainties && rows->shapeless && rows->starts && rows->ends && rows->keys && rows->confidences;
 }
 
 static void free_rows(Rows *rows)
@@ -209,6 +211,7 @@ static void free_rows(Rows *rows)
     free(rows->middles);
     free(rows->numbers);
     free(rows->certainties);
+    free(rows->shapeless);
     free(rows->starts);
     free(rows->ends);
     free(rows->keys);
@@ -247,6 +250,7 @@ static UlypteshAnalyseResult analysed(UlypteshEasy *easy, const float *samples, 
                      rows->centres, rows->positions, rows->values, rows->positions, rows->energies, rows->positions,
                      rows->work, rows->positions,
                      rows->middles, rows->windows, rows->numbers, rows->windows, rows->certainties, rows->windows,
+                     rows->shapeless, rows->windows,
                      rows->starts, rows->windows, rows->ends, rows->windows, rows->keys, rows->windows,
                      rows->confidences, rows->windows);
     return answer;
@@ -378,6 +382,19 @@ UlypteshEasySegment ulyptesh_easy_segment(const UlypteshEasy *easy, size_t numbe
         segment.confidence = rows->confidences[number];
     }
     return segment;
+}
+
+UlypteshEasyEstimate ulyptesh_easy_estimate(const UlypteshEasy *easy, size_t number)
+{
+    const Rows *rows = &easy->rows;
+    UlypteshEasyEstimate estimate = {0.0, ULYPTESH_NO_KEY, 0.0f, 0};
+    if (number < easy->last.estimates) {
+        estimate.middle = rows->middles[number];
+        estimate.key = rows->numbers[number];
+        estimate.confidence = rows->certainties[number];
+        estimate.shapeless = rows->shapeless[number];
+    }
+    return estimate;
 }
 
 UlypteshEasyFrame ulyptesh_easy_frame(const UlypteshEasy *easy, size_t number)

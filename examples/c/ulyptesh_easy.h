@@ -31,6 +31,14 @@ typedef struct UlypteshEasySegment {
     float confidence;
 } UlypteshEasySegment;
 
+/* What one local window of a track tells. */
+typedef struct UlypteshEasyEstimate {
+    double middle; /* of the window, in seconds */
+    uint32_t key;
+    float confidence;
+    uint32_t shapeless; /* 1 where the window's chroma has no shape, else 0 */
+} UlypteshEasyEstimate;
+
 /* A loud frame of a track. */
 typedef struct UlypteshEasyFrame {
     double centre; /* in seconds */
@@ -64,6 +72,9 @@ uint32_t ulyptesh_easy_frames(
 
 /* A segment of the last track, from 0 on; key 24 and zeros where it has none of this number. */
 UlypteshEasySegment ulyptesh_easy_segment(const UlypteshEasy *easy, size_t number);
+
+/* An estimate of the last track, from 0 on; key 24 and zeros where it has none of this number. */
+UlypteshEasyEstimate ulyptesh_easy_estimate(const UlypteshEasy *easy, size_t number);
 
 /* A loud frame of the last track, from 0 on; zeros where it has none of this number. */
 UlypteshEasyFrame ulyptesh_easy_frame(const UlypteshEasy *easy, size_t number);

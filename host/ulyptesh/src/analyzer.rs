@@ -1,5 +1,5 @@
 //! Analyses one track after the other over memory and tables of its own.
-use crate::calls::{self, AnalyseResult, Buffers, SegmentRows, Sheet};
+use crate::calls::{self, AnalyseResult, Buffers, EstimateRows, SegmentRows, Sheet};
 use crate::chroma::Chroma;
 use crate::found::{Alternate, Analysis, Segment};
 use crate::keys::Key;
@@ -28,6 +28,8 @@ pub struct Estimate {
     pub key: Key,
     /// How clearly, from 0 to 1.
     pub confidence: f32,
+    /// Whether the window's chroma [has no shape](crate::is_shapeless), so that key and confidence say little.
+    pub shapeless: bool,
 }
 
 /// What the library answers where it is lent fewer rows than a track needs.
@@ -115,7 +117,7 @@ impl Analyzer {
         }
         (self.loud_frames, self.estimates) = (told.frames as usize, told.estimates as usize);
         match told.refusal {
-            0 => Ok(found(&told, &self.lent.segments, duration(settings, samples.len()))),
+            0 => Ok(found(&told, &self.lent, duration(settings, samples.len()))),
             number => Err(Refusal::new(number, told.position, settings, samples.len())),
         }
     }
@@ -155,6 +157,7 @@ impl Analyzer {
             middle: rows.middles[row],
             key: Key::try_from(rows.numbers[row]).expect("an estimate has a key"),
             confidence: rows.certainties[row],
+            shapeless: rows.shapeless[row] != 0,
         })
     }
 }
@@ -173,7 +176,12 @@ fn segment(rows: &SegmentRows, row: usize) -> Segment {
     }
 }
 
-fn found(told: &AnalyseResult, rows: &SegmentRows, duration: f64) -> Analysis {
+/// How many of the first windows have no shape.
+fn shapeless_among(rows: &EstimateRows, count: usize) -> usize {
+    rows.shapeless[..count].iter().filter(|&&shapeless| shapeless != 0).count()
+}
+
+fn found(told: &AnalyseResult, lent: &Buffers, duration: f64) -> Analysis {
     let key = |number: u32| Key::try_from(number).ok();
     let alternate = |key| Alternate { key, coverage: told.coverage };
     Analysis {
@@ -181,10 +189,111 @@ fn found(told: &AnalyseResult, rows: &SegmentRows, duration: f64) -> Analysis {
         dsp_key: key(told.dsp_key),
         alternate: key(told.alternate).map(alternate),
         confidence: told.confidence,
+        shapeless: told.shapeless != 0,
         chroma: told.chroma,
-        segments: (0..told.segments as usize).map(|row| segment(rows, row)).collect(),
+        segments: (0..told.segments as usize).map(|row| segment(&lent.segments, row)).collect(),
         loud_frame_count: told.frames as usize,
         estimate_count: told.estimates as usize,
+        shapeless_estimate_count: shapeless_among(&lent.estimates, told.estimates as usize),
         duration,
+    }
+}
+
+#[cfg(test)]
+mod tests {
+    use super::*;
+
+    const RATE: u32 = 8_000;
+    const FRAME: usize = 4_096;
+
+    /// Frames and windows lie end to end: a sample is in one frame alone, and a frame's centre in one window.
+    fn settings() -> Settings {
+        Settings::for_rate(RATE).with(|settings| {
+            settings.hop_size = FRAME;
+            settings.local_window_seconds = 6.0;
+            settings.local_hop_seconds = 6.0;
+        })
+    }
+
+    fn analyzer() -> Analyzer {
+        Analyzer::new(settings()).expect("settings that are taken")
+    }
+
+    /// With tables by which a click in the last sample of a frame is as strong in each of the twelve notes.
+    fn even_analyzer() -> Analyzer {
+        let octave = settings().with(|settings| {
+            (settings.minimum_midi_note, settings.maximum_midi_note) = (60, 71);
+        });
+        let mut analyzer = Analyzer::new(octave).expect("settings that are taken");
+        let sheet = &mut analyzer.tables.sheet;
+        sheet.window.fill(1.0);
+        sheet.goertzel_weights.fill(1.0);
+        sheet.constant_q_lengths.clear();
+        sheet.constant_q_coefficients.clear();
+        sheet.constant_q_windows.clear();
+        analyzer
+    }
+
+    fn tone(seconds: usize) -> Vec<f32> {
+        let step = 440.0 / RATE as f32 * std::f32::consts::TAU;
+        (0..seconds * RATE as usize).map(|at| (at as f32 * step).sin()).collect()
+    }
+
+    /// A click in each frame, so many samples behind its front. At the front itself a frame's window is 0, so that a
+    /// frame is loud and has no note.
+    fn clicks(seconds: usize, behind: usize) -> Vec<f32> {
+        let click = |at: usize| if at % FRAME == behind { 1.0 } else { 0.0 };
+        (0..seconds * RATE as usize).map(click).collect()
+    }
+
+    /// What is told of a track, and which of its windows have no shape.
+    fn told_of(analyzer: &mut Analyzer, track: &[f32]) -> (Analysis, Vec<bool>) {
+        let told = analyzer.analyse(track).expect("a track that is not refused");
+        let marks = analyzer.estimates().map(|estimate| estimate.shapeless).collect();
+        (told, marks)
+    }
+
+    /// A tone for twenty seconds, then clicks that have no note.
+    fn tone_and_clicks() -> Vec<f32> {
+        let mut track = clicks(36, 0);
+        track[..20 * RATE as usize].copy_from_slice(&tone(20));
+        track
+    }
+
+    #[test]
+    fn windows_without_a_note_have_no_shape() {
+        let (told, marks) = told_of(&mut analyzer(), &tone_and_clicks());
+        assert_eq!(marks, [false, false, false, false, true, true]);
+        assert_eq!((told.estimate_count, told.shapeless_estimate_count, told.shapeless), (6, 2, false));
+    }
+
+    #[test]
+    fn what_an_earlier_track_left_does_not_count() {
+        let mut analyzer = analyzer();
+        told_of(&mut analyzer, &tone_and_clicks());
+        let (told, marks) = told_of(&mut analyzer, &tone(12));
+        assert_eq!((marks, told.shapeless_estimate_count), (vec![false; 2], 0));
+    }
+
+    #[test]
+    fn a_track_without_a_key_is_not_shapeless() {
+        let (told, marks) = told_of(&mut analyzer(), &clicks(36, 0));
+        assert!(told.loud_frame_count > 0, "clicks are loud");
+        assert_eq!((told.key, told.shapeless, told.shapeless_estimate_count), (None, false, 0));
+        assert!(marks.is_empty(), "{marks:?}");
+    }
+
+    #[test]
+    fn an_even_track_is_shapeless_in_all_its_windows() {
+        let (told, marks) = told_of(&mut even_analyzer(), &clicks(36, FRAME - 1));
+        assert_eq!((told.key.is_some(), told.shapeless, told.shapeless_estimate_count), (true, true, 6));
+        assert_eq!(marks, [true; 6]);
+    }
+
+    #[test]
+    fn a_brief_even_track_is_shapeless_without_a_window() {
+        let (told, marks) = told_of(&mut even_analyzer(), &clicks(11, FRAME - 1));
+        assert_eq!((told.shapeless, told.estimate_count, told.shapeless_estimate_count), (true, 0, 0));
+        assert!(marks.is_empty(), "{marks:?}");
     }
 }

@@ -29,7 +29,7 @@ pub struct Alternate {
 }
 
 /// The answer about one track. One that is too short or too faint has no key, no segments, and zeros for confidence
-/// and chroma.
+/// and chroma; it is not called shapeless.
 #[non_exhaustive]
 #[derive(Debug, Clone, PartialEq)]
 pub struct Analysis {
@@ -43,6 +43,9 @@ pub struct Analysis {
     pub alternate: Option<Alternate>,
     /// How clearly the whole track's chroma tells its key, from 0 to 1; low where the track changes its key.
     pub confidence: f32,
+    /// Whether the whole track's chroma [has no shape](crate::is_shapeless). The confidence then says little, and so
+    /// does the key where there is one segment.
+    pub shapeless: bool,
     /// Of the whole track, normalised.
     pub chroma: Chroma,
     /// In order and without gaps, from 0 to the end of the track; none without a key.
@@ -51,6 +54,8 @@ pub struct Analysis {
     pub loud_frame_count: usize,
     /// How many windows told a key.
     pub estimate_count: usize,
+    /// How many of these windows have a chroma without shape.
+    pub shapeless_estimate_count: usize,
     /// The length of the track in seconds.
     pub duration: f64,
 }

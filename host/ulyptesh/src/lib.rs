@@ -3,6 +3,8 @@
 //! An [`Analyzer`] is all that a planner needs: mono samples in, key, alternate key and key segments out.
 //! A [`Card`] is all that a deck needs: the bytes of a key card in, the same in thousandths and milliseconds out.
 //! [`key`] and [`scores`] judge a single chroma, and [`calls`] has the library's calls one by one, over lent memory.
+//! A chroma may be so even that no key stands out: [`is_shapeless`] says so, and an analysis of the track and its
+//! windows.
 //!
 //! ```
 //! # fn main() -> Result<(), Box<dyn std::error::Error>> {
@@ -35,7 +37,7 @@ mod tables;
 
 pub use analyzer::{Analyzer, Estimate, LoudFrame};
 pub use card::{Card, CardAlternate, CardError, CardSegment};
-pub use chroma::{Chroma, FoundKey, key, scores};
+pub use chroma::{Chroma, FoundKey, is_shapeless, key, scores};
 pub use found::{Alternate, Analysis, Segment};
 pub use keys::{Key, Mode, NoSuchKey, Tonic};
 pub use notation::{NoSuchNotation, Notation, UnknownKey};

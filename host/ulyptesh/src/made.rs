@@ -83,10 +83,12 @@ pub fn analysis(told: &Told) -> Analysis {
         dsp_key: key(told.dsp_key),
         alternate: key(told.alternate).map(|key| Alternate { key, coverage: told.coverage }),
         confidence: told.confidence,
+        shapeless: false,
         chroma: [0.0; 12],
         segments: (0..told.ends.len()).map(segment).collect(),
         loud_frame_count: 0,
         estimate_count: 0,
+        shapeless_estimate_count: 0,
         duration: told.ends.last().copied().unwrap_or_default(),
     }
 }

@@ -2,6 +2,8 @@
 pub extern crate key_lime;
 
 pub mod borderline;
+pub mod floored;
+pub mod shapes;
 pub mod tables;
 
 use self::key_lime::expose::key_number;

@@ -24,6 +24,8 @@ pub struct AnalyseResult {
     pub coverage: f32,
     /// Of the key, from 0 to 1.
     pub confidence: f32,
+    /// 1 where the track's chroma has no shape, else 0, as without a key.
+    pub shapeless: u32,
     /// How many frame rows are written.
     pub frames: u64,
     /// How many estimate rows are written.
@@ -67,6 +69,8 @@ unsafe extern "C" {
         number_count: usize,
         certainties: *mut f32,
         certainty_count: usize,
+        shapeless: *mut u8,
+        shapeless_count: usize,
         starts: *mut f64,
         start_count: usize,
         ends: *mut f64,
@@ -118,6 +122,8 @@ pub fn analyse(settings: Settings, sheet: &Sheet, samples: &[f32], lent: &mut Bu
                 estimates.numbers.len(),
                 estimates.certainties.as_mut_ptr(),
                 estimates.certainties.len(),
+                estimates.shapeless.as_mut_ptr(),
+                estimates.shapeless.len(),
                 segments.starts.as_mut_ptr(),
                 segments.starts.len(),
                 segments.ends.as_mut_ptr(),

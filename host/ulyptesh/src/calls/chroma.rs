@@ -10,6 +10,8 @@ pub const WRONG_LENGTH: u32 = 18;
 pub struct ScoresResult {
     /// 0, or the number of a refusal.
     pub refusal: u32,
+    /// 1 where the chroma has no shape, else 0.
+    pub shapeless: u32,
 }
 
 /// The answer to a call for the key; refused, it has key 24 and zeros.
@@ -26,6 +28,8 @@ pub struct KeyResult {
     pub second: f32,
     /// From 0 to 1; a NaN where no score is a number.
     pub confidence: f32,
+    /// 1 where the chroma has no shape, else 0.
+    pub shapeless: u32,
 }
 
 unsafe extern "C" {

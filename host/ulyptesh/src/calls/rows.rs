@@ -22,6 +22,8 @@ pub struct EstimateRows {
     pub numbers: Vec<u8>,
     /// The confidence in it.
     pub certainties: Vec<f32>,
+    /// 1 where the window's chroma has no shape, else 0.
+    pub shapeless: Vec<u8>,
 }
 
 /// Rows for segments. The shortest list is the room.
@@ -97,6 +99,7 @@ impl Buffers {
         grow(&mut estimates.middles, windows);
         grow(&mut estimates.numbers, windows);
         grow(&mut estimates.certainties, windows);
+        grow(&mut estimates.shapeless, windows);
         grow(&mut segments.starts, windows);
         grow(&mut segments.ends, windows);
         grow(&mut segments.keys, windows);
@@ -121,6 +124,7 @@ impl Buffers {
             + size_of_val(&*estimates.middles)
             + size_of_val(&*estimates.numbers)
             + size_of_val(&*estimates.certainties)
+            + size_of_val(&*estimates.shapeless)
             + size_of_val(&*segments.starts)
             + size_of_val(&*segments.ends)
             + size_of_val(&*segments.keys)

@@ -18,7 +18,7 @@ const ROW: usize = 17;
 pub const BOTTOM: usize = TOP + 12 * ROW;
 
 /// The legend's line, a box of it, and the room behind it.
-const LEGEND: usize = 410;
+pub const LEGEND: usize = 410;
 const LEGEND_BOX: usize = 12;
 const LEGEND_RIGHT: usize = 48;
 

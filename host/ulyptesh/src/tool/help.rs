@@ -25,7 +25,8 @@ ulyptesh analyse FILE.. --rate N [OPTION..]
   Of several segments the key is the longest one's. Where there is one segment, the key is that of the
   whole track's chroma, and its segment may tell another: unless --coverage forbids it, that one is then
   the alternate, with all of the track. The confidence is the whole chroma's, so it is low where a track
-  changes its key.
+  changes its key. A chroma whose pitch classes are all but equally strong has no shape: what it tells is
+  printed as ever and says little. A line says so of the whole track's, and one of how many windows'.
 
   --json          an array with an object for each track
   --json-lines    an object a line for each track
@@ -33,7 +34,8 @@ ulyptesh analyse FILE.. --rate N [OPTION..]
   --notation WORD keys as sharps (C# minor), flats (Db minor), camelot (12A) or open-key (5m)
   --card OUT      also writes the key card, for one file; - is standard output, in place of the text.
                   Its times are milliseconds, rounded down: none lies after the audio
-  --svg OUT       also draws the segments and the chroma over time, likewise
+  --svg OUT       also draws the segments and the chroma over time, likewise; windows without shape are
+                  hatched
   --cards DIR     also writes the key card of each track into a folder that is there, as NAME.card
   --svgs DIR      also draws each track into a folder, as NAME.svg
   --jobs N        so many tracks at a time; answers come as they are done
@@ -74,7 +76,8 @@ ulyptesh card FILE.. [--json | --json-lines | --notation WORD]
 pub const KEY: &str = "\
 ulyptesh key NUMBER x12 [--notation WORD]
   The key of a chroma: a number for each pitch class, from C upward. The best score is the highest of
-  the 24; where the relative key was taken instead, that one's own is the second.
+  the 24; where the relative key was taken instead, that one's own is the second. Where the chroma has
+  no shape, that is said behind them.
 ";
 
 pub const KEY_NAME: &str = "\

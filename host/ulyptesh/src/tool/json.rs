@@ -91,31 +91,33 @@ fn card_segment(told: &CardSegment) -> String {
     segment_object(start, end, told.key, ("confidence_thousandths", told.confidence.to_string()))
 }
 
-/// The fields on a track's keys.
+/// The fields on a track's keys; what is said of the key in between.
 fn keys(
     key: Option<Key>,
     dsp_key: Option<Key>,
-    confidence: Field,
+    said: &[Field],
     other: Option<Key>,
     coverage: Field,
 ) -> Vec<Field> {
-    vec![
+    let before = [
         ("key", name(key)),
         ("key_number", key_number(key)),
         ("camelot", camelot(key)),
         ("dsp_key", name(dsp_key)),
         ("dsp_key_number", key_number(dsp_key)),
-        confidence,
+    ];
+    let behind = [
         ("alternate", name(other)),
         ("alternate_number", key_number(other)),
         ("alternate_camelot", camelot(other)),
         coverage,
-    ]
+    ];
+    [&before, said, &behind].concat()
 }
 
 /// The object of a track.
 pub fn track(file: &str, rate: u32, told: &Analysis, layout: Layout) -> String {
-    let confidence = ("confidence", number(told.confidence));
+    let said = [("confidence", number(told.confidence)), ("shapeless", told.shapeless.to_string())];
     let coverage = ("coverage", or_null(told.alternate, |other| number(other.coverage)));
     let other = told.alternate.map(|other| other.key);
     let before = vec![
@@ -128,9 +130,10 @@ pub fn track(file: &str, rate: u32, told: &Analysis, layout: Layout) -> String {
         ("chroma", list(told.chroma.iter().map(|&x| number(x)), ", ")),
         ("loud_frames", told.loud_frame_count.to_string()),
         ("estimates", told.estimate_count.to_string()),
+        ("shapeless_estimates", told.shapeless_estimate_count.to_string()),
         ("segments", list(told.segments.iter().map(segment), layout.between_segments())),
     ];
-    let keys = keys(told.key, told.dsp_key, confidence, other, coverage);
+    let keys = keys(told.key, told.dsp_key, &said, other, coverage);
     object(&[before, keys, behind].concat(), layout.between_fields())
 }
 
@@ -148,7 +151,34 @@ pub fn card(file: &str, read: &Result<Card, Refusal>, layout: Layout) -> String 
         ("refusal", or_null(read.as_ref().err(), |why| why.number().to_string())),
         ("duration_ms", or_null(card, |card| card.duration_ms().to_string())),
     ];
-    let keys = keys(key, dsp_key, confidence, alternate.map(|other| other.key), coverage);
+    let keys = keys(key, dsp_key, &[confidence], alternate.map(|other| other.key), coverage);
     let behind = vec![("segments", list(segments, layout.between_segments()))];
     object(&[before, keys, behind].concat(), layout.between_fields())
+}
+
+#[cfg(test)]
+mod tests {
+    use super::super::made::told_with;
+    use super::*;
+
+    /// Whether the fields stand in the object of a track.
+    fn has(fields: &str, change: impl FnOnce(&mut Analysis)) -> bool {
+        track("track", 8_000, &told_with(change), Layout::OneLine).contains(fields)
+    }
+
+    #[test]
+    fn shapes_are_told_of_tracks() {
+        let behind = ", \"alternate\"";
+        assert!(has(&format!("\"shapeless\": false{behind}"), |_| ()));
+        assert!(has(&format!("\"shapeless\": true{behind}"), |told| told.shapeless = true));
+        assert!(has("\"estimates\": 5, \"shapeless_estimates\": 2, \"segments\"", |told| {
+            (told.estimate_count, told.shapeless_estimate_count) = (5, 2);
+        }));
+    }
+
+    #[test]
+    fn shapes_are_not_told_of_cards() {
+        let bytes = told_with(|told| told.shapeless = true).card().expect("a card");
+        assert!(!card("card", &Card::read(&bytes), Layout::OneLine).contains("shape"));
+    }
 }

@@ -5,9 +5,12 @@ mod containers;
 mod demo;
 mod desk;
 mod failure;
+mod hatching;
 mod heat_map;
 mod help;
 mod json;
+#[cfg(test)]
+mod made;
 mod outputs;
 mod picture;
 mod progress;
@@ -22,7 +25,7 @@ use failure::{Failure, bad_usage, quoted, refused, tell};
 use std::ffi::{OsStr, OsString};
 use std::io::{Write, stdout};
 use std::process::ExitCode;
-use text::named;
+use text::{NO_SHAPE, named};
 use ulyptesh::calls::{PITCH_CLASSES, abi};
 use ulyptesh::{Chroma, Key, key};
 use words::{Known, Words, value, with_word};
@@ -72,7 +75,9 @@ fn say(text: &str) -> Result<(), Failure> {
 fn key_of(chroma: &Chroma, words: &Words) -> Result<String, Failure> {
     let (found, notation) = (key(chroma), asked::notation(words)?);
     let (name, best, second) = (named(found.key, notation), found.best, found.second);
-    Ok(format!("{name}: best score {best:?}, second {second:?}, confidence {:?}", found.confidence))
+    let shape =
+        if found.shapeless { format!("; {NO_SHAPE}: key and scores say little") } else { String::new() };
+    Ok(format!("{name}: best score {best:?}, second {second:?}, confidence {:?}{shape}", found.confidence))
 }
 
 fn key_of_words(words: Words) -> Result<(), Failure> {
@@ -137,6 +142,15 @@ pub fn main() -> ExitCode {
 #[cfg(test)]
 mod tests {
     use super::*;
+
+    #[test]
+    fn a_chroma_without_shape_is_told() {
+        let told = |chroma: Chroma| key_of(&chroma, &Words::default()).ok();
+        let mark = |text: String| text.ends_with("; the chroma has no shape: key and scores say little");
+        assert_eq!(told([0.5; PITCH_CLASSES]).map(mark), Some(true));
+        let triad = [1.0, 0.0, 0.0, 0.0, 1.0, 0.0, 0.0, 1.0, 0.0, 0.0, 0.0, 0.0];
+        assert_eq!(told(triad).map(|text| text.contains("shape")), Some(false));
+    }
 
     #[test]
     fn every_option_is_told() {

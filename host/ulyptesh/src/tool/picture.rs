@@ -1,6 +1,8 @@
 //! An analysis as a picture: the segments along the time, and the chroma below them.
-use super::heat_map::{self, BOTTOM};
-use super::text::named;
+use super::hatching::{self, PATTERN, Stretch, stretches};
+use super::heat_map::{self, BOTTOM, LEGEND};
+use super::text::{NO_SHAPE, named};
+use std::iter;
 use ulyptesh::{Analysis, Analyzer, Key, LoudFrame, Mode, Segment};
 
 /// Where time begins, and how far it goes.
@@ -8,8 +10,11 @@ pub const LEFT: usize = 60;
 pub const WIDTH: usize = 910;
 
 /// The segments' blocks.
-const BLOCKS: usize = 68;
-const BLOCK_HEIGHT: usize = 58;
+pub const BLOCKS: usize = 68;
+pub const BLOCK_HEIGHT: usize = 58;
+
+/// Where the legend tells what the hatching means.
+const HATCHING_LEGEND: usize = 470;
 
 /// Around a segment, and around the only one where the reported key is another.
 const SEGMENT_BORDER: &str = "stroke=\"#fff\"";
@@ -33,6 +38,8 @@ pub struct Picture<'a> {
     frames: Vec<LoudFrame>,
     /// Seconds of a frame.
     frame: f64,
+    /// Where windows have no shape.
+    shapeless: Vec<Stretch>,
 }
 
 /// Text as it may stand in XML.
@@ -80,12 +87,23 @@ fn colour(key: Key) -> String {
     format!("#{:02x}{:02x}{:02x}", channel(0.0), channel(8.0), channel(4.0))
 }
 
+/// Where windows have no shape; of a track without estimates, all of it where it has none itself.
+fn shapeless(told: &Analysis, analyzer: &Analyzer) -> Vec<Stretch> {
+    if told.estimate_count == 0 && told.shapeless {
+        return vec![Stretch { start: 0.0, end: told.duration }];
+    }
+    let marked = analyzer.estimates().filter(|estimate| estimate.shapeless);
+    let window = analyzer.settings().local_window_seconds.into();
+    stretches(marked.map(|estimate| estimate.middle), window, told.duration)
+}
+
 impl<'a> Picture<'a> {
     /// Of the track that was analysed last.
     pub fn new(name: &'a str, told: &'a Analysis, analyzer: &Analyzer) -> Self {
         let settings = analyzer.settings();
         let frame = settings.frame_size as f64 / f64::from(settings.rate);
-        Self { name, told, frames: analyzer.loud_frames().collect(), frame }
+        let shapeless = shapeless(told, analyzer);
+        Self { name, told, frames: analyzer.loud_frames().collect(), frame, shapeless }
     }
 
     fn x(&self, seconds: f64) -> f64 {
@@ -94,6 +112,10 @@ impl<'a> Picture<'a> {
 
     fn clock(&self, seconds: f64) -> String {
         clock(seconds, self.told.duration)
+    }
+
+    fn times(&self, start: f64, end: f64) -> String {
+        format!("{} to {}", self.clock(start), self.clock(end))
     }
 
     fn title(&self) -> String {
@@ -109,7 +131,8 @@ impl<'a> Picture<'a> {
         let (name, frames) = (shortened(self.name), self.told.loud_frame_count);
         let lone =
             self.told.lone_other_key().map_or("", |_| "; the key is the whole track's, not its segment's");
-        format!("{name}: {:.2} s, {frames} loud frames{lone}", self.told.duration)
+        let shape = if self.told.shapeless { format!("; {NO_SHAPE}") } else { String::new() };
+        format!("{name}: {:.2} s, {frames} loud frames{lone}{shape}", self.told.duration)
     }
 
     /// A line of a block at this height: the first of the texts that is short enough.
@@ -124,7 +147,7 @@ impl<'a> Picture<'a> {
     fn block(&self, segment: &Segment) -> String {
         let (left, key) = (self.x(segment.start), segment.key);
         let width = self.x(segment.end) - left;
-        let times = format!("{} to {}", self.clock(segment.start), self.clock(segment.end));
+        let times = self.times(segment.start, segment.end);
         let number = format!("{:.3}", segment.confidence);
         let confidence = format!("confidence {number}");
         let border = self.told.lone_other_key().map_or(SEGMENT_BORDER, |_| OTHER_BORDER);
@@ -142,6 +165,20 @@ impl<'a> Picture<'a> {
             colour(key),
             lines.concat()
         )
+    }
+
+    /// Over the blocks; nothing where all windows have a shape.
+    fn hatching(&self) -> String {
+        if self.shapeless.is_empty() {
+            return String::new();
+        }
+        let drawn =
+            |&Stretch { start, end }| hatching::drawn(self.x(start), self.x(end), &self.times(start, end));
+        iter::once(PATTERN.into()).chain(self.shapeless.iter().map(drawn)).collect()
+    }
+
+    fn hatching_legend(&self) -> String {
+        if self.shapeless.is_empty() { String::new() } else { hatching::legend(HATCHING_LEGEND, LEGEND) }
     }
 
     fn tick(&self, seconds: f64) -> String {
@@ -169,7 +206,8 @@ impl<'a> Picture<'a> {
         }
         let blocks: String = self.told.segments.iter().map(|segment| self.block(segment)).collect();
         let map = heat_map::drawn(&self.frames, self.frame, self.told.duration);
-        format!("<g text-anchor=\"middle\">\n{blocks}{}</g>\n{map}", self.axis())
+        let (hatching, legend) = (self.hatching(), self.hatching_legend());
+        format!("<g text-anchor=\"middle\">\n{blocks}{hatching}{}</g>\n{map}{legend}", self.axis())
     }
 }
 
@@ -186,4 +224,49 @@ pub fn svg(picture: &Picture<'_>) -> String {
         escaped(&picture.subtitle()),
         picture.plot(),
     )
+}
+
+#[cfg(test)]
+mod tests {
+    use super::super::made::told_with;
+    use super::*;
+
+    /// The picture of two seconds with these stretches.
+    fn drawn(told: &Analysis, shapeless: Vec<Stretch>) -> String {
+        svg(&Picture { name: "track", told, frames: vec![], frame: 0.5, shapeless })
+    }
+
+    /// How often a text stands in a picture.
+    fn count(picture: &str, text: &str) -> usize {
+        picture.matches(text).count()
+    }
+
+    #[test]
+    fn nothing_is_hatched_where_all_has_a_shape() {
+        let picture = drawn(&told_with(|_| ()), vec![]);
+        assert_eq!((count(&picture, "no-shape"), count(&picture, "no shape")), (0, 0));
+    }
+
+    #[test]
+    fn each_stretch_is_hatched_over_its_time() {
+        let halves = [0.5, 1.5].map(|start| Stretch { start, end: start + 0.25 });
+        let picture = drawn(&told_with(|_| ()), halves.to_vec());
+        assert_eq!(count(&picture, "height=\"58\" fill=\"url(#no-shape)\""), 2);
+        assert!(picture.find("<pattern id=\"no-shape\"") < picture.find("url(#no-shape)"));
+        assert_eq!((count(&picture, "<pattern "), count(&picture, SEGMENT_BORDER)), (1, 1));
+        assert!(picture.find(SEGMENT_BORDER) < picture.find("url(#no-shape)"), "over the segment");
+        assert_eq!(count(&picture, "<rect x=\"287.5\" y=\"68\" width=\"113.8\" height=\"58\" fill=\"url"), 1);
+        assert_eq!(count(&picture, "<title>the chroma has no shape, 1.5 s to 1.8 s</title>"), 1);
+        assert_eq!(count(&picture, ">the chroma has no shape</text>"), 1);
+    }
+
+    #[test]
+    fn a_track_without_shape_and_windows_is_hatched_whole() {
+        let analyzer = Analyzer::for_rate(8_000).expect("a rate that is taken");
+        let brief = told_with(|told| told.shapeless = true);
+        assert_eq!(shapeless(&brief, &analyzer), [Stretch { start: 0.0, end: 2.0 }]);
+        assert_eq!(count(&drawn(&brief, vec![]), " loud frames; the chroma has no shape</text>"), 1);
+        let with_windows = told_with(|told| (told.shapeless, told.estimate_count) = (true, 1));
+        assert_eq!(shapeless(&with_windows, &analyzer), []);
+    }
 }

@@ -1,6 +1,9 @@
 //! An analysis as lines for a reader.
 use ulyptesh::{Analysis, Key, Notation};
 
+/// Said of a chroma that is so even that no key stands out.
+pub const NO_SHAPE: &str = "the chroma has no shape";
+
 /// A key as a reader is told it: in one notation, or by its name with the Camelot code.
 pub fn named(key: Key, notation: Option<Notation>) -> String {
     match notation {
@@ -14,7 +17,19 @@ pub fn key_alone(told: &Analysis, notation: Option<Notation>) -> String {
     told.key.map_or("none".into(), |key| key.in_notation(notation.unwrap_or(Notation::Sharps)))
 }
 
-/// The key, the alternate and the segments of a track.
+/// What rests on a chroma without shape: of several segments the key is not the whole chroma's.
+fn shape_of_track(told: &Analysis) -> Option<String> {
+    let (one, several) = ("key and confidence say little", "the confidence says little");
+    told.shapeless.then(|| format!("  {NO_SHAPE}: {}", if told.segments.len() > 1 { several } else { one }))
+}
+
+/// How many windows tell a key that says little.
+fn shape_of_windows(told: &Analysis) -> Option<String> {
+    let (count, all) = (told.shapeless_estimate_count, told.estimate_count);
+    (count > 0).then(|| format!("  no shape in {count} of {all} windows: their keys say little"))
+}
+
+/// The key, the alternate and the segments of a track, and where its chroma has no shape.
 pub fn lines(name: &str, told: &Analysis, notation: Option<Notation>) -> Vec<String> {
     let named = |key| named(key, notation);
     let Some(key) = told.key else {
@@ -33,5 +48,46 @@ pub fn lines(name: &str, told: &Analysis, notation: Option<Notation>) -> Vec<Str
     if told.lone_other_key().is_some() {
         lines.push("  the key is the whole track's; its one segment tells another".into());
     }
+    lines.extend(shape_of_track(told));
+    lines.extend(shape_of_windows(told));
     lines
+}
+
+#[cfg(test)]
+mod tests {
+    use super::super::made::told_with;
+    use super::*;
+
+    /// The lines behind those that any track has.
+    fn added(change: impl FnOnce(&mut Analysis)) -> Vec<String> {
+        let told = told_with(change);
+        lines("track", &told, None).split_off(2 + told.segments.len())
+    }
+
+    #[test]
+    fn nothing_is_added_where_all_has_a_shape() {
+        assert_eq!(added(|told| told.estimate_count = 12), [] as [&str; 0]);
+    }
+
+    #[test]
+    fn a_track_without_shape_is_told() {
+        let one = added(|told| told.shapeless = true);
+        assert_eq!(one, ["  the chroma has no shape: key and confidence say little"]);
+        let several = added(|told| {
+            told.shapeless = true;
+            told.segments.push(told.segments[0]);
+        });
+        assert_eq!(several, ["  the chroma has no shape: the confidence says little"]);
+    }
+
+    #[test]
+    fn windows_without_shape_are_counted() {
+        let count = |told: &mut Analysis| (told.estimate_count, told.shapeless_estimate_count) = (12, 3);
+        assert_eq!(added(count), ["  no shape in 3 of 12 windows: their keys say little"]);
+        let both = added(|told| {
+            count(told);
+            told.shapeless = true;
+        });
+        assert_eq!(both.len(), 2, "{both:?}");
+    }
 }

@@ -101,7 +101,7 @@ fn refused() -> impl Iterator<Item = Asked> {
     BREACHES.iter().map(|breach| {
         let mut call = whole();
         (breach.breaks)(&mut call);
-        Asked { call, work: 7, rows: [1; 7] }
+        Asked { call, work: 7, rows: [1; 8] }
     })
 }
 

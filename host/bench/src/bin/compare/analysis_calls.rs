@@ -8,13 +8,13 @@ use std::sync::Arc;
 use ulyptesh::Settings;
 use ulyptesh::calls::{Sheet, frame_positions, windows};
 
-/// A call for frames with the lengths of their rows, and of the rest that is lent: work numbers, three lists for
+/// A call for frames with the lengths of their rows, and of the rest that is lent: work numbers, four lists for
 /// estimates, four for segments.
 #[derive(Clone)]
 pub struct Asked {
     pub call: frame_calls::Asked,
     pub work: usize,
-    pub rows: [usize; 7],
+    pub rows: [usize; 8],
 }
 
 /// The front of the table, which has one check more than that for frames.
@@ -27,7 +27,7 @@ impl Asked {
     /// A call that is lent as much as the wrapper tells.
     pub fn new(what: &'static str, settings: Settings, sheet: &Arc<Sheet>, samples: Vec<f32>) -> Self {
         let positions = frame_positions(&settings, samples.len());
-        let rows = [windows(&settings, samples.len()); 7];
+        let rows = [windows(&settings, samples.len()); 8];
         let (sheet, room) = (Arc::clone(sheet), [positions; 3]);
         Self { call: frame_calls::Asked { what, settings, sheet, samples, room }, work: positions, rows }
     }

@@ -50,6 +50,12 @@ impl Left {
         &self.lent.segments.ends[..self.answer.segments as usize]
     }
 
+    /// Which of its estimates are without shape: 1 or 0 each.
+    #[cfg(oracle)]
+    pub fn shapeless(&self) -> &[u8] {
+        &self.lent.estimates.shapeless[..self.answer.estimates as usize]
+    }
+
     /// The ends that are read on its card, in milliseconds.
     pub fn ends(&self) -> &[u32] {
         self.card.as_ref().map_or(&[], card_rounds::ends)
@@ -58,7 +64,7 @@ impl Left {
 
 impl Compared for AnalyseResult {
     fn same(&self, other: &Self) -> bool {
-        let numbers = |r: &Self| [r.refusal, r.key, r.dsp_key, r.alternate];
+        let numbers = |r: &Self| [r.refusal, r.key, r.dsp_key, r.alternate, r.shapeless];
         let counts = |r: &Self| [r.position, r.frames, r.estimates, r.segments];
         numbers(self) == numbers(other)
             && counts(self) == counts(other)
@@ -87,11 +93,12 @@ impl Compared for Left {
 
     fn shown(&self) -> String {
         let Buffers { frames, work, estimates, segments } = &self.lent;
-        let lists = [frames.energies.shown(), work.shown(), estimates.middles.shown(), segments.ends.shown()];
+        let (middles, shapeless) = (estimates.middles.shown(), estimates.shapeless.shown());
+        let lists = [frames.energies.shown(), work.shown(), middles, shapeless, segments.ends.shown()];
         let stayed = if self.stayed { "" } else { ", samples or sheet changed" };
         let inside = if self.inside { "" } else { ", an end after the audio" };
         let (answer, lists, card) = (self.answer.shown(), lists.join("; "), self.card.shown());
-        format!("{answer}{stayed}; energies, work, middles, ends: {lists}; card: {card}{inside}")
+        format!("{answer}{stayed}; energies, work, middles, shapeless, ends: {lists}; card: {card}{inside}")
     }
 }
 
@@ -107,7 +114,7 @@ fn marked_bytes(length: usize) -> Vec<u8> {
 /// What is lent, before the call.
 pub fn untouched(asked: &Asked) -> Buffers {
     let [centres, values, energies] = asked.call.room;
-    let [middles, numbers, certainties, starts, ends, keys, confidences] = asked.rows;
+    let [middles, numbers, certainties, shapeless, starts, ends, keys, confidences] = asked.rows;
     let same = |x: f32| x;
     Buffers {
         frames: FrameRows {
@@ -120,6 +127,7 @@ pub fn untouched(asked: &Asked) -> Buffers {
             middles: marked(middles, f64::from),
             numbers: marked_bytes(numbers),
             certainties: marked(certainties, same),
+            shapeless: marked_bytes(shapeless),
         },
         segments: SegmentRows {
             starts: marked(starts, f64::from),
@@ -148,6 +156,7 @@ pub fn keyless(refusal: u32, position: usize, frames: usize) -> AnalyseResult {
         alternate: NO_KEY,
         coverage: 0.0,
         confidence: 0.0,
+        shapeless: 0,
         frames: frames as u64,
         estimates: 0,
         segments: 0,

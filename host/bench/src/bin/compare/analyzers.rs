@@ -6,7 +6,7 @@ use crate::groups::{Groups, compared_as_shown};
 use bench::inputs::dice::Dice;
 use bench::inputs::tracks::{KINDS, Maker};
 use ulyptesh::calls::{Buffers, EstimateRows, Sheet, analyse};
-use ulyptesh::{Analysis, Analyzer, LoudFrame, Refusal, Settings};
+use ulyptesh::{Analysis, Analyzer, Estimate, LoudFrame, Refusal, Settings};
 
 /// Streams of the seed from here on.
 const STREAM: u64 = 95_000;
@@ -45,6 +45,9 @@ const FLOAT_LIMITS: [f32; 12] = [
 
 /// The loud frames of a track, and why it was refused behind them or before.
 type Heard = (Vec<LoudFrame>, Option<Refusal>);
+
+/// Middle, key number and confidence of an estimate, and whether its chroma has no shape.
+type Estimated = ((f64, u8), (f32, bool));
 
 compared_as_shown!(Result<Analysis, Refusal>, LoudFrame, Refusal);
 
@@ -109,29 +112,48 @@ fn compare_analyzers(groups: &mut Groups) {
     groups.group("an analyzer used again", 0..TURNS, again, |nth| analysed_anew(seed, nth));
     let frames = |nth: usize| frames[nth].clone();
     groups.group("an analyzer's frames alone", 0..TURNS, frames, |nth| left_anew(seed, nth));
+    compare_estimates(groups);
+}
+
+/// The estimates, and how many an analysis counts that are without shape.
+fn compare_estimates(groups: &mut Groups) {
+    let seed = groups.seed;
     let left = |nth| estimates_left(seed, nth);
+    let seen: Vec<bool> = (0..TURNS).flat_map(left).map(|((_, _), (_, shapeless))| shapeless).collect();
+    assert!(seen.contains(&true) && seen.contains(&false), "some windows have no shape, and some have one");
     groups.group("an analyzer's estimates", 0..TURNS, |nth| estimates(seed, nth), left);
+    let counted = |nth| left(nth).iter().filter(|told| told.1.1).count();
+    groups.group("estimates without shape, counted", 0..TURNS, |nth| shapeless_estimates(seed, nth), counted);
+}
+
+fn shapeless_estimates(seed: u64, nth: usize) -> usize {
+    let (settings, samples) = of_windows(seed, nth);
+    let told = Analyzer::new(settings).expect("settings that are taken").analyse(&samples);
+    told.map_or(0, |told| told.shapeless_estimate_count)
 }
 
 /// The estimates that an analyzer has of a track, or none where it is refused.
-fn estimates(seed: u64, nth: usize) -> Vec<(f64, (u8, f32))> {
+fn estimates(seed: u64, nth: usize) -> Vec<Estimated> {
     let (settings, samples) = of_windows(seed, nth);
     let mut analyzer = Analyzer::new(settings).expect("settings that are taken");
     drop(analyzer.analyse(&samples));
-    analyzer.estimates().map(|told| (told.middle, (told.key.number(), told.confidence))).collect()
+    let estimated = |told: Estimate| ((told.middle, told.key.number()), (told.confidence, told.shapeless));
+    analyzer.estimates().map(estimated).collect()
 }
 
 /// Those that the call leaves in its rows.
-fn estimates_left(seed: u64, nth: usize) -> Vec<(f64, (u8, f32))> {
+fn estimates_left(seed: u64, nth: usize) -> Vec<Estimated> {
     let (settings, samples) = of_windows(seed, nth);
     let mut lent = Buffers::for_track(&settings, samples.len());
     let told = analyse(settings, &Sheet::for_call(&settings), &samples, &mut lent);
-    let EstimateRows { middles, numbers, certainties } = lent.estimates;
-    let rows = middles.into_iter().zip(numbers.into_iter().zip(certainties));
+    let EstimateRows { middles, numbers, certainties, shapeless } = lent.estimates;
+    let told_apart = certainties.into_iter().zip(shapeless.into_iter().map(|told| told == 1));
+    let rows = middles.into_iter().zip(numbers).zip(told_apart);
     rows.take(told.estimates as usize).collect()
 }
 
-/// Ten seconds or so with a window every half second.
+/// Ten seconds or so with a window every half second; every other track begins with a click that no note hears, and
+/// silence for a window.
 fn of_windows(seed: u64, nth: usize) -> (Settings, Vec<f32>) {
     let mut dice = Dice::new(seed, STREAM + CHECKED as u64 + nth as u64);
     let settings = settings(RATES[0], (48, 95), 1_024, 512).with(|settings| {
@@ -139,7 +161,12 @@ fn of_windows(seed: u64, nth: usize) -> (Settings, Vec<f32>) {
         settings.local_hop_seconds = 0.5;
     });
     let (kind, length) = (&KINDS[nth % KINDS.len()], 60_000 + dice.below(40_000));
-    (settings, (kind.make)(&mut Maker { dice, rate: RATES[0] }, length))
+    let mut samples = (kind.make)(&mut Maker { dice, rate: RATES[0] }, length);
+    if nth.is_multiple_of(2) {
+        samples[..2 * RATES[0] as usize].fill(0.0);
+        samples[0] = 0.5;
+    }
+    (settings, samples)
 }
 
 fn at_limit_or<A: Copy>(dice: &mut Dice, limits: &[A], usual: A) -> A {

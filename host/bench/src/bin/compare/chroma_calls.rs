@@ -13,13 +13,14 @@ compared_exactly!(ScoresResult);
 impl Compared for KeyResult {
     fn same(&self, other: &Self) -> bool {
         let numbers = |answer: &Self| [answer.best, answer.second, answer.confidence];
-        (self.refusal, self.key) == (other.refusal, other.key) && numbers(self).same(&numbers(other))
+        let wholes = |answer: &Self| [answer.refusal, answer.key, answer.shapeless];
+        wholes(self) == wholes(other) && numbers(self).same(&numbers(other))
     }
 
     fn shown(&self) -> String {
-        let Self { refusal, key, best, second, confidence } = self;
+        let Self { refusal, key, best, second, confidence, shapeless } = self;
         let numbers = [best, second, confidence].map(|number| number.shown()).join(", ");
-        format!("refusal {refusal}, key {key}, best, second and confidence {numbers}")
+        format!("refusal {refusal}, key {key}, best, second and confidence {numbers}, shapeless {shapeless}")
     }
 }
 

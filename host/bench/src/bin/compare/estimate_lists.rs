@@ -10,24 +10,27 @@ const MOST_ESTIMATES: usize = 60;
 const STEPS: [&[f64]; 6] = [&[0.5], &[0.5, 0.0], &[6.0], &[6.0, 12.0], &[1.0 / 3.0, 0.7, 0.0], &[0.0]];
 
 /// Rows that nothing was written to, so many of each list.
-pub fn untouched_estimates(room: [usize; 3]) -> EstimateRows {
+pub fn untouched_estimates(room: [usize; 4]) -> EstimateRows {
     EstimateRows {
         middles: vec![-7.25; room[0]],
         numbers: vec![0xa5; room[1]],
         certainties: vec![-9.25; room[2]],
+        shapeless: vec![0x5a; room[3]],
     }
 }
 
-/// Writes the oracle's estimates from the front of the rows.
-pub fn put_estimates(estimates: &[Estimate], rows: &mut EstimateRows) {
+/// Writes the oracle's estimates from the front of the rows, and whether their chromas have no shape.
+pub fn put_estimates(estimates: &[Estimate], shapeless: &[bool], rows: &mut EstimateRows) {
+    assert_eq!(estimates.len(), shapeless.len(), "each estimate has a chroma");
     for (place, &(middle, key, confidence)) in estimates.iter().enumerate() {
         rows.middles[place] = middle;
         rows.numbers[place] = key_number(key);
         rows.certainties[place] = confidence;
+        rows.shapeless[place] = shapeless[place].into();
     }
 }
 
-/// The estimates in the rows, as the oracle has them.
+/// The estimates in the rows, as the oracle has them; segments rest on no more of them.
 pub fn as_theirs(rows: &EstimateRows) -> Vec<Estimate> {
     let lists = rows.middles.iter().zip(&rows.numbers).zip(&rows.certainties);
     lists.map(|((&middle, &key), &confidence)| (middle, key_from_index(key.into()), confidence)).collect()
@@ -55,7 +58,7 @@ fn certainty(dice: &mut Dice, threshold: f32) -> f32 {
 pub fn estimates(dice: &mut Dice, threshold: f32) -> EstimateRows {
     let (keys, steps, stay) = (dice.few_keys(), dice.one_of(&STEPS), 1 + dice.below(8));
     let (mut middle, mut key) = (dice.one_of(&[0.0, 0.25, 6.0, 10.0 / 3.0]), keys[0]);
-    let mut rows = untouched_estimates([0; 3]);
+    let mut rows = untouched_estimates([0; 4]);
     for _ in 0..dice.below(MOST_ESTIMATES + 1) {
         if dice.one_in(stay) {
             key = dice.one_of(&keys);

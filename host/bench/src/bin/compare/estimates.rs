@@ -38,7 +38,7 @@ compared_as_shown!(Lent);
 impl Lent {
     /// A number is no key's, the lists are not equally long, or the rows too few.
     fn refused(&self) -> bool {
-        let EstimateRows { middles, numbers, certainties } = &self.estimates;
+        let EstimateRows { middles, numbers, certainties, .. } = &self.estimates;
         let found = middles.len();
         numbers.iter().any(|&number| number > 23)
             || numbers.len() != found

@@ -8,6 +8,7 @@ use std::str::FromStr;
 #[derive(Debug, Clone, PartialEq)]
 pub enum Json {
     Null,
+    Truth(bool),
     Number(String),
     Text(String),
     List(Vec<Json>),
@@ -25,6 +26,12 @@ impl Json {
 
     pub fn list(&self) -> Option<&[Self]> {
         if let Self::List(items) = self { Some(items) } else { None }
+    }
+
+    /// The value of an object's field.
+    pub fn field(&self, name: &str) -> Option<&Self> {
+        let Self::Object(fields) = self else { return None };
+        fields.iter().find(|field| field.0 == name).map(|field| &field.1)
     }
 
     /// The names of an object's fields that are null.
@@ -46,10 +53,8 @@ impl Json {
         if let Self::Number(digits) = self { digits.parse().ok() } else { None }
     }
 
-    /// The value of an object's field.
-    pub fn field(&self, name: &str) -> Option<&Self> {
-        let Self::Object(fields) = self else { return None };
-        fields.iter().find(|field| field.0 == name).map(|field| &field.1)
+    pub fn truth(&self) -> Option<bool> {
+        if let Self::Truth(truth) = self { Some(*truth) } else { None }
     }
 }
 
@@ -71,12 +76,19 @@ impl Reader<'_> {
     fn value(&mut self) -> Option<Json> {
         self.skip_blanks();
         match self.rest.peek()? {
-            'n' => "null".chars().all(|c| self.rest.next() == Some(c)).then_some(Json::Null),
+            'n' => self.word("null", Json::Null),
+            't' => self.word("true", Json::Truth(true)),
+            'f' => self.word("false", Json::Truth(false)),
             '"' => self.text().map(Json::Text),
             '[' => self.items('[', ']', Self::value).map(Json::List),
             '{' => self.items('{', '}', Self::field).map(Json::Object),
             _ => self.number(),
         }
+    }
+
+    /// The value that a word stands for.
+    fn word(&mut self, word: &str, value: Json) -> Option<Json> {
+        word.chars().all(|c| self.rest.next() == Some(c)).then_some(value)
     }
 
     fn number(&mut self) -> Option<Json> {

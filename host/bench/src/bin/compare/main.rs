@@ -56,6 +56,10 @@ mod segment_lists;
 mod segment_tracks;
 #[cfg(oracle)]
 mod segments;
+#[cfg(oracle)]
+mod shapeless_tracks;
+#[cfg(oracle)]
+mod shapes;
 mod sheets;
 #[cfg(oracle)]
 mod short_tracks;
@@ -120,12 +124,13 @@ macro_rules! beside_oracle {
     };
 }
 
-const TOPICS: [Topic; 36] = [
+const TOPICS: [Topic; 38] = [
     alone!(numbers),
     alone!(orders),
     alone!(key_names),
     beside_oracle!(keys),
     beside_oracle!(scores),
+    beside_oracle!(shapes),
     beside_oracle!(chroma_leaves),
     alone!(medians),
     alone!(packed),
@@ -145,6 +150,7 @@ const TOPICS: [Topic; 36] = [
     beside_oracle!(segments),
     beside_oracle!(block_tracks),
     beside_oracle!(track_edges),
+    beside_oracle!(shapeless_tracks),
     beside_oracle!(short_tracks),
     beside_oracle!(whole_tracks),
     alone!(allocations),

@@ -36,13 +36,13 @@ pub fn of_frames() -> impl Iterator<Item = frame_calls::Asked> {
 
 /// The same of a whole analysis, which has more checks.
 pub fn of_analyses() -> Vec<Asked> {
-    let whole = Asked { work: 7, rows: [1, 2, 1, 1, 3, 1, 1], call: whole() };
+    let whole = Asked { work: 7, rows: [1, 2, 1, 4, 1, 3, 1, 1], call: whole() };
     assert_eq!(whole.refusal(), None);
     let of_frames =
         BREACHES.iter().map(|breach| -> Breaks { Box::new(|asked| (breach.breaks)(&mut asked.call)) });
     let hop: Breaks = Box::new(|asked| asked.call.settings.local_hop_seconds = 0.5f32.next_down());
     let work: Breaks = Box::new(|asked| asked.work = 6);
-    let rows = (0..7).map(|list| -> Breaks { Box::new(move |asked| asked.rows[list] = 0) });
+    let rows = (0..8).map(|list| -> Breaks { Box::new(move |asked| asked.rows[list] = 0) });
     let breaches: Vec<Breaks> = of_frames.chain([hop, work]).chain(rows).collect();
     let broken = pairs(breaches.len()).map(|(one, other)| {
         let mut asked = whole.clone();
@@ -76,7 +76,7 @@ pub fn of_rooms() -> Vec<Asked> {
         breaks(&mut asked);
         asked
     };
-    (0..11).flat_map(other_room).map(changed).chain([whole.clone()]).collect()
+    (0..12).flat_map(other_room).map(changed).chain([whole.clone()]).collect()
 }
 
 fn numbers() -> [f32; MOST_NUMBERS] {
@@ -102,10 +102,17 @@ fn compare_analyses(groups: &mut Groups, name: &str, mut calls: Vec<Asked>) {
 
 fn compare_lengths(groups: &mut Groups) {
     let scores = |(given, lent): (usize, usize)| our_scores(&numbers()[..given], lent);
-    let no_scores = |_| (ScoresResult { refusal: WRONG_LENGTH }, untouched());
+    let no_scores = |_| (ScoresResult { refusal: WRONG_LENGTH, shapeless: 0 }, untouched());
     groups.group("scores of wrong lengths", wrong_lengths(), scores, no_scores);
     let no_chromas = (0..=MOST_NUMBERS).filter(|&given| given != PITCH_CLASSES);
-    let refused = KeyResult { refusal: WRONG_LENGTH, key: NO_KEY, best: 0.0, second: 0.0, confidence: 0.0 };
+    let refused = KeyResult {
+        refusal: WRONG_LENGTH,
+        key: NO_KEY,
+        best: 0.0,
+        second: 0.0,
+        confidence: 0.0,
+        shapeless: 0,
+    };
     groups.group("key of wrong lengths", no_chromas, |given| calls::key(&numbers()[..given]), |_| refused);
 }
 

@@ -19,6 +19,7 @@ impl Compared for EstimateRows {
         self.middles.same(&other.middles)
             && self.numbers == other.numbers
             && self.certainties.same(&other.certainties)
+            && self.shapeless == other.shapeless
     }
 
     fn shown(&self) -> String {

@@ -26,11 +26,11 @@ const MINIMA: [f32; 8] = [0.0, 0.5, 1.3, 2.0, 12.0, 12.0, 1e9, -1.0];
 
 const ODD_CENTRES: [f64; 6] = [f64::NAN, f64::INFINITY, f64::NEG_INFINITY, -0.0, -1.0, 1e300];
 
-/// A track, and the lengths of its rows: three lists for estimates, four for segments.
+/// A track, and the lengths of its rows: four lists for estimates, four for segments.
 #[derive(Debug, Clone)]
 pub struct Asked {
     pub track: Track,
-    pub room: [usize; 7],
+    pub room: [usize; 8],
 }
 
 /// Tracks from streams of the seed.
@@ -191,17 +191,34 @@ impl Tracks {
         track
     }
 
+    /// All bins are equal.
+    fn equal(&mut self) -> Chroma {
+        let any = self.dice.unit();
+        [self.dice.one_of(&[0.0, -0.0, 1.0 / 12.0, 1.0, any, any]); 12]
+    }
+
+    /// Frames whose bins are all equal, so that a window of them has no shape, and stretches of triads among them
+    /// unless it is wholly so.
+    pub fn without_shape(&mut self, wholly: bool) -> Track {
+        let (mut track, stay, mut equal) = (self.regular(), 1 + self.dice.below(30), true);
+        for chroma in &mut track.values {
+            equal = if !wholly && self.dice.one_in(stay) { !equal } else { equal };
+            *chroma = if equal { self.equal() } else { self.triad() };
+        }
+        track
+    }
+
     /// As many rows as are asked for, in some lists a few more.
     pub fn with_room(&mut self, track: Track) -> Asked {
         let rows = rows_asked(&track);
         let more = if self.dice.one_in(4) { 4 } else { 1 };
-        Asked { track, room: [rows; 7].map(|rows| rows + self.dice.below(more)) }
+        Asked { track, room: [rows; 8].map(|rows| rows + self.dice.below(more)) }
     }
 
     /// One list has a row too few.
     pub fn without_room(&mut self, track: Track) -> Asked {
         let mut asked = self.with_room(track);
-        asked.room[self.dice.below(7)] = rows_asked(&asked.track) - 1;
+        asked.room[self.dice.below(8)] = rows_asked(&asked.track) - 1;
         asked
     }
 }

@@ -5,8 +5,11 @@ use crate::groups::{Compared, Groups, compared_exactly};
 use crate::segment_lists::{put_joined, untouched_segments};
 use crate::segment_tracks::{Asked, Tracks};
 use crate::windows::{duration, is_brief, rows_asked};
-use bench::oracle::key_lime::KeySegment;
-use bench::oracle::key_lime::expose::{Estimate, estimate_segments, estimates, key_from_index};
+use bench::oracle::key_lime::expose::{
+    Estimate, estimate_segments, estimated_chromas, estimates, key_from_index,
+};
+use bench::oracle::key_lime::{KeyConfig, KeySegment};
+use bench::oracle::shapes::is_shapeless;
 use bench::oracle::{config, frames};
 use bench::probe::segments::{Cutting, ProbedSegments, START_DID_NOT_GROW, TOO_LITTLE_ROOM, Track, segments};
 use ulyptesh::calls::{EstimateRows, SegmentRows};
@@ -37,10 +40,10 @@ impl Compared for Asked {
     }
 }
 
-fn untouched(room: [usize; 7]) -> (EstimateRows, SegmentRows) {
-    let [middles, numbers, certainties, starts, ends, keys, confidences] = room;
+fn untouched(room: [usize; 8]) -> (EstimateRows, SegmentRows) {
+    let [middles, numbers, certainties, shapeless, starts, ends, keys, confidences] = room;
     let segments = untouched_segments([starts, ends, keys, confidences]);
-    (untouched_estimates([middles, numbers, certainties]), segments)
+    (untouched_estimates([middles, numbers, certainties, shapeless]), segments)
 }
 
 fn ours(asked: Asked) -> Left {
@@ -49,16 +52,30 @@ fn ours(asked: Asked) -> Left {
     (answer, (found, left))
 }
 
-/// The oracle's estimates; where the hop is not above 0 those of the first window, since its loop ends at a NaN.
-pub fn their_estimates(track: &Track) -> Vec<Estimate> {
-    if is_brief(track) {
-        return vec![];
-    }
+/// The track's own; where the hop is not above 0 the window loop ends behind the first window, at a NaN.
+fn loop_config(track: &Track) -> KeyConfig {
     let mut config = config(&track.settings);
     if !grows(track) {
         config.local_hop_seconds = f32::NAN;
     }
-    estimates(&frames(track), duration(track), config)
+    config
+}
+
+/// The oracle's estimates.
+pub fn their_estimates(track: &Track) -> Vec<Estimate> {
+    if is_brief(track) {
+        return vec![];
+    }
+    estimates(&frames(track), duration(track), loop_config(track))
+}
+
+/// Whether the chroma that was classified for each estimate has no shape.
+pub fn their_shapeless(track: &Track) -> Vec<bool> {
+    if is_brief(track) {
+        return vec![];
+    }
+    let chromas = estimated_chromas(&frames(track), duration(track), loop_config(track));
+    chromas.iter().map(is_shapeless).collect()
 }
 
 /// Whether the start of the window grows: no hop of these tracks is too small for that.
@@ -89,7 +106,7 @@ fn theirs(asked: Asked) -> Left {
         return (answer(TOO_LITTLE_ROOM, 0, 0), rows);
     }
     let found = their_estimates(&track);
-    put_estimates(&found, &mut rows.0);
+    put_estimates(&found, &their_shapeless(&track), &mut rows.0);
     if !is_brief(&track) && !grows(&track) {
         return (answer(START_DID_NOT_GROW, found.len(), 0), rows);
     }
@@ -128,10 +145,30 @@ const KINDS: [(&str, usize, Maker); 6] = [
     }),
 ];
 
+/// Name, how many tracks, and whether all their windows are without shape or just some.
+const SHAPELESS_KINDS: [(&str, usize, bool); 2] =
+    [("some windows without shape", 2_000, false), ("all windows without shape", 1_000, true)];
+
+fn compare_shapeless(groups: &mut Groups, stream: u64, (name, count, wholly): (&str, usize, bool)) {
+    let mut tracks = Tracks::new(groups.seed, stream);
+    let made = |_| {
+        let track = tracks.without_shape(wholly);
+        tracks.with_room(track)
+    };
+    let inputs: Vec<Asked> = (0..count).map(made).collect();
+    let seen: Vec<bool> = inputs.iter().flat_map(|asked| their_shapeless(&asked.track)).collect();
+    assert_eq!([true, false].map(|shapeless| seen.contains(&shapeless)), [true, !wholly], "{name}");
+    groups.group(&format!("segments of frames, {name}"), inputs.into_iter(), ours, theirs);
+}
+
 pub fn compare(groups: &mut Groups) {
-    for (stream, (name, count, make)) in (STREAM..).step_by(STREAMS).zip(KINDS) {
+    let mut streams = (STREAM..).step_by(STREAMS);
+    for (stream, (name, count, make)) in streams.by_ref().zip(KINDS) {
         let mut tracks = Tracks::new(groups.seed, stream);
         let inputs = (0..count).map(move |_| make(&mut tracks));
         groups.group(&format!("segments of frames, {name}"), inputs, ours, theirs);
+    }
+    for (stream, kind) in streams.zip(SHAPELESS_KINDS) {
+        compare_shapeless(groups, stream, kind);
     }
 }

@@ -4,11 +4,12 @@ use crate::analysis_left::{Left, keyless, refused, untouched};
 use crate::estimate_lists::put_estimates;
 use crate::frames::{Heard, heard, put_frames};
 use crate::segment_lists::put_joined;
-use crate::segments::{their_estimates, their_groups};
+use crate::segments::{their_estimates, their_groups, their_shapeless};
 use bench::oracle::config;
 use bench::oracle::key_lime::KeyAnalysis;
 use bench::oracle::key_lime::expose::analysis_of_frames;
 use bench::oracle::number;
+use bench::oracle::shapes::is_shapeless;
 use bench::probe::segments::Track;
 use ulyptesh::calls::{AnalyseResult, Buffers};
 
@@ -19,6 +20,7 @@ fn with_key(told: &KeyAnalysis, frames: usize, estimates: usize) -> AnalyseResul
         alternate: number(told.alternate_key),
         coverage: told.alternate_coverage,
         confidence: told.confidence,
+        shapeless: is_shapeless(&told.chroma).into(),
         estimates: estimates as u64,
         segments: told.segments.len() as u64,
         chroma: told.chroma,
@@ -64,7 +66,7 @@ fn their_answer(asked: &Asked, lent: &mut Buffers) -> AnalyseResult {
     }
     let track = track_of(asked, &heard);
     let found = their_estimates(&track);
-    put_estimates(&found, &mut lent.estimates);
+    put_estimates(&found, &their_shapeless(&track), &mut lent.estimates);
     put_joined(&told.segments, their_groups(&track, &found), &mut lent.segments);
     with_key(&told, frames, found.len())
 }

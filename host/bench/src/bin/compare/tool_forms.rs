@@ -1,4 +1,5 @@
-//! What the tool prints, beside what its pages say: help, notations, keys alone, keys at several times, names.
+//! What the tool prints, beside what its pages say: help, notations, keys alone, keys at several times, names, and
+//! where a chroma has no shape.
 use crate::card_reads::{ROW_O, ROW_P};
 use crate::groups::{Groups, compared_exactly};
 use crate::key_names::{CAMELOT, OPEN_KEY};
@@ -37,8 +38,20 @@ const CASES: [Case; 21] = [
 const KEY_HELP: &str = "\
 ulyptesh key NUMBER x12 [--notation WORD]
   The key of a chroma: a number for each pitch class, from C upward. The best score is the highest of
-  the 24; where the relative key was taken instead, that one's own is the second.
+  the 24; where the relative key was taken instead, that one's own is the second. Where the chroma has
+  no shape, that is said behind them.
 ";
+
+/// Words, and what is said of shapes: of the whole chroma, and of how many windows.
+const SHAPES: [(&str, &[&str]); 7] = [
+    ("analyse tone --rate 8000", &[]),
+    ("analyse silent --rate 8000", &[]),
+    ("analyse clicks --rate 8000 --notes 60-71", &["the chroma has no shape", "no shape in 2 of 2 windows"]),
+    ("analyse clicks --rate 8000 --notes 60-71 --key-only", &[]),
+    ("analyse unheard --rate 8000", &["no shape in 1 of 2 windows"]),
+    ("key 0 0 0 0 0 0 0 0 0 0 0 0", &["the chroma has no shape"]),
+    ("key 1 0 0 0 1 0 0 1 0 0 0 0", &[]),
+];
 
 /// How a run ended and what it printed.
 #[derive(Debug, PartialEq)]
@@ -54,8 +67,21 @@ fn tone() -> Vec<f32> {
     (0..16_000).map(|place| (place as f32 * 0.345_575_2).sin()).collect()
 }
 
+/// Twenty seconds with a soft click in each frame, which the notes of one octave hear alike.
+fn clicks() -> Vec<f32> {
+    (0..160_000).map(|place| if place % 4_096 == 300 { 0.01 } else { 0.0 }).collect()
+}
+
+/// A click where the first frame begins, which no note hears, silence for longer than a window, and a tone.
+fn unheard() -> Vec<f32> {
+    let silence = (0..104_000).map(|place| if place == 0 { 0.5 } else { 0.0 });
+    silence.chain(tone().into_iter().cycle().take(56_000)).collect()
+}
+
 fn filled() -> Folder {
     let folder = Folder::new("tool-forms");
+    folder.put_samples("clicks", &clicks());
+    folder.put_samples("unheard", &unheard());
     folder.put_samples("tone", &tone());
     folder.put_samples("-tone", &tone());
     folder.put_samples("silent", &[0.0; 16_000]);
@@ -89,6 +115,14 @@ fn by_tool(folder: &Folder, (number, notation): (usize, usize)) -> String {
     let word = Notation::ALL[notation].word();
     let ended = folder.run(&["key-name", &number.to_string(), "--notation", word]);
     text(&ended.stdout).trim_end().into()
+}
+
+/// What is said of shapes, behind all else on its line and before what follows from it.
+fn said_of_shapes(folder: &Folder, words: &str) -> Vec<String> {
+    let told = printed(folder, &words.split_whitespace().collect::<Vec<_>>()).text;
+    let said = told.lines().filter(|line| line.contains("no shape"));
+    let said = said.filter_map(|line| line.rsplit("; ").next()?.split(':').next());
+    said.map(|said| said.trim().into()).collect()
 }
 
 /// A command's own help, twice over, and the version.
@@ -138,6 +172,12 @@ pub fn compare(groups: &mut Groups) {
     let keys =
         (0..Key::ALL.len()).flat_map(|key| (0..Notation::ALL.len()).map(move |notation| (key, notation)));
     groups.group("the tool's notations", keys, |key| by_tool(&folder, key), written);
+    groups.group(
+        "where the tool says that a chroma has no shape",
+        0..SHAPES.len(),
+        |nth| said_of_shapes(&folder, SHAPES[nth].0),
+        |nth| SHAPES[nth].1.iter().map(|said| said.to_string()).collect(),
+    );
     groups.group("the tool's help and version", [0u32].into_iter(), |_| help(&folder), |_| [true; 4]);
     groups.group("the tool on standard input", [0u32].into_iter(), |_| by_input(&folder), |_| [true; 2]);
     groups.group(

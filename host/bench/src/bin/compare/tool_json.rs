@@ -31,7 +31,7 @@ fn is_of(value: &Json, kind: &str, page: &str) -> bool {
     match kind.strip_suffix(" or null") {
         Some(kind) => *value == Json::Null || is_of(value, kind, page),
         None => match (kind, value) {
-            ("number", Json::Number(_)) | ("text", Json::Text(_)) => true,
+            ("number", Json::Number(_)) | ("text", Json::Text(_)) | ("true or false", Json::Truth(_)) => true,
             ("list of numbers", Json::List(items)) => items.iter().all(|item| is_of(item, "number", page)),
             ("list of segments", Json::List(items)) => all_follow(items, "A segment", page),
             ("list of card segments", Json::List(items)) => all_follow(items, "A card segment", page),
@@ -93,11 +93,12 @@ const fn of_cards(words: &'static str, objects: usize, nulls: &'static [&'static
     Run { words, title: CARD, objects, nulls }
 }
 
-const RUNS: [Run; 11] = [
+const RUNS: [Run; 12] = [
     of_tracks("analyse two --rate 44100 --json", 1, &[]),
     of_tracks("analyse one --rate 44100 --json", 1, WITHOUT_ALTERNATE),
     of_tracks("analyse silent --rate 44100 --json-lines", 1, WITHOUT_KEY),
     of_tracks("analyse two two --rate 44100 --json-lines", 2, &[]),
+    of_tracks("analyse clicks --rate 44100 --notes 60-71 --coverage 0 --json", 1, WITHOUT_ALTERNATE),
     of_tracks("analyse missing silent silent --rate 44100 --json", 2, WITHOUT_KEY),
     of_tracks("analyse one one missing --rate 44100 --json --jobs 2", 2, WITHOUT_ALTERNATE),
     of_cards("card two.card --json", 1, &["refusal"]),
@@ -107,13 +108,19 @@ const RUNS: [Run; 11] = [
     of_cards("card two silent one --json", 3, NO_CARD),
 ];
 
-/// The demo's track in two keys, its front in one, and silence; and a card of each.
+/// A soft click in each frame, which the notes of one octave hear alike.
+fn clicks() -> Vec<f32> {
+    (0..882_000).map(|place| if place % 4_096 == 300 { 0.01 } else { 0.0 }).collect()
+}
+
+/// The demo's track in two keys, its front in one, and silence; a card of each; and clicks.
 fn filled() -> Folder {
     let folder = Folder::new("tool-json");
     assert!(folder.run(&["demo", "--track", "two"]).status.success(), "the demo's track");
     let two = folder.read("two").expect("the demo's track");
     folder.put("one", &two[..two.len() / 4]);
     folder.put_samples("silent", &[0.0; 16_000]);
+    folder.put_samples("clicks", &clicks());
     let words = ["analyse", "one", "two", "silent", "--rate", "44100", "--cards", "."];
     assert!(folder.run(&words).status.success(), "a card of each");
     folder
@@ -138,6 +145,17 @@ fn seen(folder: &Folder, page: &str, run: Run) -> [usize; 3] {
     [objects.len(), follow, objects.iter().filter(nulls).count()]
 }
 
+/// What a run says of shapes: of the first track's chroma, and of how many of its windows.
+fn shapes(folder: &Folder, run: usize) -> [Option<Json>; 2] {
+    let words = RUNS[run].words;
+    let ended = folder.run(&words.split_whitespace().collect::<Vec<_>>());
+    let told = objects(&text(&ended.stdout), words).into_iter().next();
+    ["shapeless", "shapeless_estimates"].map(|name| told.as_ref().and_then(|told| told.field(name)).cloned())
+}
+
+/// Runs on one track each, whether its chroma has no shape, and how many of its windows have none.
+const SHAPES: [(usize, bool, &str); 4] = [(0, false, "0"), (1, false, "0"), (2, false, "0"), (4, true, "2")];
+
 /// The page's own examples follow it too: whether those of tracks do, and those of cards.
 fn examples(page: &str) -> Vec<bool> {
     let blocks = page.split("```json\n").skip(1).filter_map(|behind| behind.split("```").next());
@@ -152,6 +170,12 @@ pub fn compare(groups: &mut Groups) {
     let (folder, page) = (filled(), page());
     let (ours, wanted) = (|run: Run| seen(&folder, &page, run), |run: Run| [run.objects; 3]);
     groups.group("the tool's JSON beside its page", RUNS.into_iter(), ours, wanted);
+    let said = |nth: usize| shapes(&folder, SHAPES[nth].0);
+    let shapes = |nth: usize| {
+        let (_, shapeless, windows) = SHAPES[nth];
+        [Some(Json::Truth(shapeless)), Some(Json::Number(windows.into()))]
+    };
+    groups.group("shapes in the tool's JSON", 0..SHAPES.len(), said, shapes);
     let examples = |_| examples(&page);
     groups.group("the examples of the page on JSON", [0u32].into_iter(), examples, |_| vec![true; 2]);
 }

@@ -1,19 +1,18 @@
 //! The tool's analyses of generated tracks, by its program, beside the oracle's `analyze`: every field of the JSON,
 //! and the card that it writes.
 use crate::analyses::Told;
+use crate::analysis_left::Left;
 use crate::cards::packed;
 use crate::groups::{Groups, compared_as_shown};
 use crate::json::Json;
 use crate::key_names::CAMELOT;
 use crate::their_analyses::theirs;
-use crate::tool_inputs::{RATES, Track, file_of, track};
+use crate::tool_inputs::{CLICKS, Track, UNHEARD_CLICK, file_of, sheets, track};
 use crate::tool_runs::{Folder, text};
 use bench::oracle::key_lime::expose::key_number;
-use bench::oracle::key_lime::{KeyAnalysis, KeyConfig, MusicalKey, analyze};
-use bench::oracle::number;
-use bench::oracle::tables::Tables;
-use std::sync::Arc;
-use ulyptesh::{Refusal, Settings};
+use bench::oracle::key_lime::{KeyAnalysis, MusicalKey, analyze};
+use bench::oracle::{config, number};
+use ulyptesh::Refusal;
 
 const TRACKS: usize = 50;
 
@@ -33,11 +32,13 @@ struct Object {
     key: Option<Named>,
     dsp_key: Option<(String, u8)>,
     confidence: f32,
+    shapeless: bool,
     alternate: Option<Named>,
     coverage: Option<f32>,
     chroma: Vec<f32>,
     loud_frames: u64,
     estimates: u64,
+    shapeless_estimates: usize,
     segments: Vec<Segment>,
 }
 
@@ -85,11 +86,13 @@ fn object(told: &Json) -> Option<Object> {
         key: named_or_null(told, ["key", "key_number", "camelot"])?,
         dsp_key: or_null(told, &["dsp_key", "dsp_key_number"], dsp_key)?,
         confidence: field("confidence")?.number()?,
+        shapeless: field("shapeless")?.truth()?,
         alternate: named_or_null(told, ["alternate", "alternate_number", "alternate_camelot"])?,
         coverage: or_null(told, &["coverage"], || field("coverage")?.number())?,
         chroma: field("chroma")?.list()?.iter().map(Json::number).collect::<Option<_>>()?,
         loud_frames: field("loud_frames")?.number()?,
         estimates: field("estimates")?.number()?,
+        shapeless_estimates: field("shapeless_estimates")?.number()?,
         segments: field("segments")?.list()?.iter().map(segment).collect::<Option<_>>()?,
     })
 }
@@ -101,7 +104,8 @@ fn objects(printed: &str) -> Option<Vec<Object>> {
 fn ours(track: &Track, folder: &Folder) -> Answer {
     let (file, card) = (file_of(track), format!("{}.card", track.nth));
     let (samples, rate) = (&track.asked.call.samples, track.asked.call.settings.rate.to_string());
-    let words = ["analyse", &file, "--rate", &rate, "--json", "--card", &card];
+    let mut words = vec!["analyse", &file, "--rate", &rate, "--json", "--card", &card];
+    words.extend(track.words);
     let ended = if file == "-" {
         folder.run_on(samples, &words)
     } else {
@@ -137,7 +141,7 @@ fn their_card(told: &KeyAnalysis) -> Option<Vec<u8>> {
     })
 }
 
-fn their_object(track: &Track, told: &KeyAnalysis, frames: u64, estimates: u64) -> Object {
+fn their_object(track: &Track, told: &KeyAnalysis, counted: &Left) -> Object {
     let (samples, rate) = (&track.asked.call.samples, track.asked.call.settings.rate);
     let segments = told
         .segments
@@ -151,31 +155,46 @@ fn their_object(track: &Track, told: &KeyAnalysis, frames: u64, estimates: u64) 
         key: told.key.map(their_name),
         dsp_key: told.dsp_key.map(|key| (key.to_string(), key_number(key))),
         confidence: told.confidence,
+        shapeless: counted.answer.shapeless == 1,
         alternate: told.alternate_key.map(their_name),
         coverage: told.alternate_key.map(|_| told.alternate_coverage),
         chroma: told.chroma.to_vec(),
-        loud_frames: frames,
-        estimates,
+        loud_frames: counted.answer.frames,
+        estimates: counted.answer.estimates,
+        shapeless_estimates: shapeless_estimates(counted),
         segments: segments.collect(),
     }
+}
+
+fn shapeless_estimates(left: &Left) -> usize {
+    left.shapeless().iter().filter(|&&shapeless| shapeless == 1).count()
 }
 
 /// The oracle's `analyze`; its frames and windows tell the counts, and whether a frame is not finite.
 fn their_answer(track: &Track) -> Answer {
     let (samples, settings) = (&track.asked.call.samples, &track.asked.call.settings);
-    let counted = theirs(&track.asked).answer;
-    if counted.refusal != 0 {
-        let why = Refusal::new(counted.refusal, counted.position, settings, samples.len());
+    let counted = theirs(&track.asked);
+    if counted.answer.refusal != 0 {
+        let why = Refusal::new(counted.answer.refusal, counted.answer.position, settings, samples.len());
         return Answer::Refused(format!("ulyptesh: {}: {why}\n", file_of(track)));
     }
-    let told = analyze(samples, settings.rate, KeyConfig::default());
-    let object = their_object(track, &told, counted.frames, counted.estimates);
+    let told = analyze(samples, settings.rate, config(settings));
+    let object = their_object(track, &told, &counted);
     Answer::Analysed { objects: vec![object], card: their_card(&told) }
 }
 
 pub fn compare(groups: &mut Groups) {
     let (seed, folder) = (groups.seed, Folder::new("tool-tracks"));
-    let sheets = RATES.map(|rate| Arc::new(Tables::new(Settings::for_rate(rate).head()).sheet));
+    let sheets = sheets();
+    let shapes = |nth| {
+        let left = theirs(&track(seed, nth, &sheets).asked);
+        (left.answer.shapeless, shapeless_estimates(&left), left.answer.estimates)
+    };
+    assert_eq!(
+        [UNHEARD_CLICK, CLICKS].map(shapes),
+        [(0, 1, 2), (1, 2, 2)],
+        "some windows and a track without shape"
+    );
     groups.shared_group(
         "the tool's analyses of generated tracks",
         TRACKS,

@@ -1,16 +1,20 @@
 //! Whole analyses: a sheet that serves all tracks, and a record for each.
 //!
 //! The sheet: its head, the frame window, coefficients and weights of the Goertzel rows, lengths, coefficients and
-//! joined windows of the constant-Q rows. A record: the settings, the samples, the answer's whole numbers, its values
-//! and its chroma, then all that is left in rows that were zero: frames and work numbers, estimates, segments. A
-//! number of 64 bits has its lower half first.
+//! joined windows of the constant-Q rows. A record: the settings, the samples, the answer's nine whole numbers (refusal,
+//! position, key, DSP key, alternate, the counts of frames, estimates and segments, and 1 where the track's chroma has
+//! no shape), its values and its chroma, then all that is left in rows that were zero: frames and work numbers,
+//! estimates (middles, keys, confidences, and 1 for each without shape), segments. A number of 64 bits has its lower
+//! half first.
 use crate::patterns::pattern;
 use crate::tracks::{Asked, FRAME_SIZE, NOTES, RATE, every_track};
 use bench::oracle::key_lime::expose::{
-    ConstantQ, Estimate, Goertzel, estimates, frame_chroma_sequence, hanning_window, key_number,
+    ConstantQ, Estimate, Goertzel, estimated_chromas, estimates, frame_chroma_sequence, hanning_window,
+    key_number,
 };
 use bench::oracle::key_lime::{ChromaFrame, KeyAnalysis, KeyConfig, KeySegment, analyze};
 use bench::oracle::number;
+use bench::oracle::shapes::is_shapeless;
 use ulyptesh::calls::NO_KEY;
 
 /// The rows that each call is lent.
@@ -26,6 +30,7 @@ struct Outcome {
     frames: Vec<ChromaFrame>,
     energies: Vec<f32>,
     estimates: Vec<Estimate>,
+    shapeless: Vec<bool>,
     analysis: Option<KeyAnalysis>,
 }
 
@@ -95,11 +100,15 @@ fn position(asked: &Asked, nth: usize) -> usize {
     loud.nth(nth).expect("so many frames are loud")
 }
 
-fn found_estimates(asked: &Asked, frames: &[ChromaFrame]) -> Vec<Estimate> {
+/// The estimates, and whether the chroma of each has no shape.
+fn found_estimates(asked: &Asked, frames: &[ChromaFrame]) -> (Vec<Estimate>, Vec<bool>) {
     let c = asked.config;
     let duration = asked.samples.len() as f64 / f64::from(asked.rate);
-    let brief = duration < f64::from(c.local_window_seconds) + f64::from(c.local_hop_seconds);
-    if brief { vec![] } else { estimates(frames, duration, c) }
+    if duration < f64::from(c.local_window_seconds) + f64::from(c.local_hop_seconds) {
+        return Default::default();
+    }
+    let chromas = estimated_chromas(frames, duration, c);
+    (estimates(frames, duration, c), chromas.iter().map(is_shapeless).collect())
 }
 
 /// The request's checks, then the oracle's frames up to the first that is not finite, then its analysis.
@@ -118,8 +127,9 @@ fn outcome(asked: &Asked) -> Outcome {
         return Outcome { refusal: 9, position, frames, energies, ..Outcome::default() };
     }
     let analysis = analyze(&asked.samples, asked.rate, asked.config);
-    let estimates = if analysis.key.is_some() { found_estimates(asked, &frames) } else { vec![] };
-    Outcome { frames, energies, estimates, analysis: Some(analysis), ..Outcome::default() }
+    let has_key = analysis.key.is_some();
+    let (estimates, shapeless) = if has_key { found_estimates(asked, &frames) } else { Default::default() };
+    Outcome { frames, energies, estimates, shapeless, analysis: Some(analysis), ..Outcome::default() }
 }
 
 impl Outcome {
@@ -132,12 +142,18 @@ impl Outcome {
         self.analysis.as_ref().map_or([NO_KEY; 3], keys)
     }
 
+    /// Whether the track's chroma has no shape; not without a key.
+    fn is_shapeless(&self) -> bool {
+        self.analysis.as_ref().is_some_and(|a| a.key.is_some() && is_shapeless(&a.chroma))
+    }
+
     fn answer(&self) -> Vec<u32> {
         let mut answer = vec![self.refusal, self.position as u32];
         answer.extend(self.keys());
         answer.extend(
             [self.frames.len(), self.estimates.len(), self.segments().len()].map(|count| count as u32),
         );
+        answer.push(self.is_shapeless().into());
         let values = |a: &KeyAnalysis| [&[a.alternate_coverage, a.confidence][..], &a.chroma[..]].concat();
         answer.extend(patterns(&self.analysis.as_ref().map_or(vec![0.0; 14], values)));
         answer
@@ -153,6 +169,7 @@ impl Outcome {
             column(&self.estimates, ESTIMATES, |e| halves(e.0)),
             column(&self.estimates, ESTIMATES, |e| [key_number(e.1).into()]),
             column(&self.estimates, ESTIMATES, |e| [pattern(&e.2)]),
+            column(&self.shapeless, ESTIMATES, |&shapeless| [shapeless.into()]),
             column(segments, SEGMENTS, |s| halves(s.start_seconds)),
             column(segments, SEGMENTS, |s| halves(s.end_seconds)),
             column(segments, SEGMENTS, |s| [key_number(s.key).into()]),
@@ -167,8 +184,9 @@ fn record(asked: Asked) -> Vec<u32> {
     let outcome = outcome(&asked);
     let [key, _, alternate] = outcome.keys();
     let counts = [outcome.frames.len(), outcome.estimates.len(), outcome.segments().len()];
+    let shapeless = (outcome.is_shapeless(), outcome.shapeless.iter().filter(|&&told| told).count());
     println!(
-        "1 record: {}: refusal {}, key {key}, alternate {alternate}, rows {counts:?}",
+        "1 record: {}: refusal {}, key {key}, alternate {alternate}, rows {counts:?}, shapeless {shapeless:?}",
         asked.what, outcome.refusal
     );
     [settings(&asked), patterns(&asked.samples), outcome.answer(), outcome.rows()].concat()

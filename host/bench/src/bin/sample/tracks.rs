@@ -45,11 +45,25 @@ const KINDS: [Kind; 25] = [
         ask: |a| a.config.alternate_coverage_threshold = 0.0,
         ..PLAIN
     },
-    Kind { what: "three keys", chords: &[0, 4, 8], ..PLAIN },
+    Kind {
+        what: "windows without shape, then a key",
+        chords: &[4],
+        noise: 0.0,
+        spoil: |s| {
+            s[..160].fill(0.0);
+            s[..160].iter_mut().step_by(HOP_SIZE).for_each(|x| *x = 1e-3);
+        },
+        ..PLAIN
+    },
     Kind { what: "three minor keys", chords: &[12, 16, 20], noise: 0.05, ..PLAIN },
     Kind { what: "a key a window", chords: &[0, 3, 6, 9, 1], ..PLAIN },
     Kind { what: "there and back", chords: &[5, 5, 23, 23, 5], ..PLAIN },
-    Kind { what: "a cadence", chords: &[0, 5, 7, 0], noise: 0.03, ..PLAIN },
+    Kind {
+        what: "a track without shape",
+        noise: 0.0,
+        spoil: |s| s.chunks_mut(HOP_SIZE).for_each(put_shapeless),
+        ..PLAIN
+    },
     Kind {
         what: "a cadence, sure windows alone",
         chords: &[9, 2, 4, 9],
@@ -117,6 +131,19 @@ const KINDS: [Kind; 25] = [
     },
     Kind { what: "more frames than rows", chords: &[0], ask: |a| a.config.hop_size = 24, ..PLAIN },
 ];
+
+/// What all pitch classes of these notes hear alike in the middle of a frame, in hundred-millionths.
+#[rustfmt::skip]
+const SHAPELESS: [i32; 20] = [
+    745, -7_736, 100_000, 5_234, 7_957, 2_383, 202, -15_179, -406, 637, 14_702, 4_817, -4_721, -11_108, -12_426, 5_475,
+    9_755, 22_069, 11_501, 9_713,
+];
+
+/// The same in every frame.
+fn put_shapeless(from_frame_on: &mut [f32]) {
+    let middle = from_frame_on.iter_mut().skip(6);
+    middle.zip(SHAPELESS).for_each(|(x, told)| *x = told as f32 * 1e-8);
+}
 
 /// Three notes of a key, from the lowest octave.
 fn triad(key: u8) -> [f32; 3] {
