@@ -162,3 +162,24 @@ impl Maker {
         samples
     }
 }
+
+/// A click in each frame, the first at that place and the rest of it silent. The notes of one octave hear it alike, so
+/// that such a track has no shape.
+pub fn put_clicks(samples: &mut [f32], frame_size: usize, first: usize, loudness: f32) {
+    samples.fill(0.0);
+    samples.iter_mut().skip(first).step_by(frame_size).for_each(|x| *x = loudness);
+}
+
+/// So many samples with a soft click in each frame.
+pub fn clicks(length: usize, frame_size: usize) -> Vec<f32> {
+    let mut samples = vec![0.0; length];
+    put_clicks(&mut samples, frame_size, 300, 0.01);
+    samples
+}
+
+/// A click where the first frame begins, which its window leaves out, and silence behind it: the frame is loud, and no
+/// note hears it.
+pub fn put_unheard_click(samples: &mut [f32]) {
+    samples.fill(0.0);
+    samples[0] = 0.5;
+}

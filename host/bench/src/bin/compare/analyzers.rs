@@ -4,7 +4,7 @@ use crate::analysis_calls::refusal_of;
 use crate::frame_calls::settings;
 use crate::groups::{Groups, compared_as_shown};
 use bench::inputs::dice::Dice;
-use bench::inputs::tracks::{KINDS, Maker};
+use bench::inputs::tracks::{KINDS, Maker, put_unheard_click};
 use ulyptesh::calls::{Buffers, EstimateRows, Sheet, analyse};
 use ulyptesh::{Analysis, Analyzer, Estimate, LoudFrame, Refusal, Settings};
 
@@ -163,8 +163,7 @@ fn of_windows(seed: u64, nth: usize) -> (Settings, Vec<f32>) {
     let (kind, length) = (&KINDS[nth % KINDS.len()], 60_000 + dice.below(40_000));
     let mut samples = (kind.make)(&mut Maker { dice, rate: RATES[0] }, length);
     if nth.is_multiple_of(2) {
-        samples[..2 * RATES[0] as usize].fill(0.0);
-        samples[0] = 0.5;
+        put_unheard_click(&mut samples[..2 * RATES[0] as usize]);
     }
     (settings, samples)
 }

@@ -8,7 +8,7 @@ use crate::groups::Groups;
 use crate::their_analyses::theirs;
 use crate::track_edges::sheet_of;
 use bench::inputs::dice::Dice;
-use bench::inputs::tracks::{Maker, kind};
+use bench::inputs::tracks::{Maker, kind, put_clicks, put_unheard_click};
 use ulyptesh::Settings;
 use ulyptesh::calls::NO_KEY;
 
@@ -26,12 +26,7 @@ const OCTAVES: [(u32, u8); 4] = [(8_000, 48), (8_000, 60), (11_025, 72), (44_100
 /// From hardly loud to as loud as can be.
 const LOUDNESSES: [f32; 5] = [0.005, 0.01, 0.02, 0.1, 1.0];
 
-/// One click in each frame; the frames overlap by half.
-fn put_clicks(samples: &mut [f32], first: usize, loudness: f32) {
-    samples.iter_mut().skip(first).step_by(FRAME_SIZE).for_each(|x| *x = loudness);
-}
-
-/// One octave and a window every half second.
+/// One octave, frames that overlap by half, and a window every half second.
 fn one_octave(rate: u32, lowest: u8) -> Settings {
     settings(rate, (lowest, lowest + 11), FRAME_SIZE, FRAME_SIZE / 2).with(|settings| {
         settings.local_window_seconds = 1.0;
@@ -55,8 +50,7 @@ fn clicks(seed: u64) -> Vec<Asked> {
         let (first, loudness) = (dice.below(FRAME_SIZE), dice.one_of(&LOUDNESSES));
         let mut maker = Maker { dice, rate: settings.rate };
         let mut samples = (kind("chord progression").make)(&mut maker, length);
-        samples[..border].fill(0.0);
-        put_clicks(&mut samples[..border], first, loudness);
+        put_clicks(&mut samples[..border], FRAME_SIZE, first, loudness);
         let mut asked = Asked::new("clicks", *settings, sheet, samples);
         asked.lent_mut().for_each(|lent| *lent += nth / 3 % 3);
         asked
@@ -64,16 +58,14 @@ fn clicks(seed: u64) -> Vec<Asked> {
     (0..CLICKS).map(track).collect()
 }
 
-/// With the usual settings: a click where the first frame begins, which its window leaves out, then silence for longer
-/// than a local window, then chords.
+/// With the usual settings: a click that no note hears, then silence for longer than a local window, then chords.
 fn click_before_silence(seed: u64) -> Vec<Asked> {
     let track = |(rate, stream): (u32, u64)| {
         let settings = Settings::for_rate(rate);
         let mut maker = Maker { dice: Dice::new(seed, stream), rate };
         let (silence, length) = (13 * rate as usize, 30 * rate as usize);
         let mut samples = (kind("chord progression").make)(&mut maker, length);
-        samples[..silence].fill(0.0);
-        samples[0] = 0.5;
+        put_unheard_click(&mut samples[..silence]);
         Asked::new("a click before silence", settings, &sheet_of(&settings), samples)
     };
     [8_000, 11_025, 44_100, 48_000].into_iter().zip(STREAM + CLICKS as u64..).map(track).collect()

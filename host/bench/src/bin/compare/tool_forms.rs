@@ -4,6 +4,7 @@ use crate::card_reads::{ROW_O, ROW_P};
 use crate::groups::{Groups, compared_exactly};
 use crate::key_names::{CAMELOT, OPEN_KEY};
 use crate::tool_runs::{Folder, text};
+use bench::inputs::tracks::{clicks, put_unheard_click};
 use ulyptesh::calls::ABI;
 use ulyptesh::{Key, Notation};
 
@@ -67,20 +68,16 @@ fn tone() -> Vec<f32> {
     (0..16_000).map(|place| (place as f32 * 0.345_575_2).sin()).collect()
 }
 
-/// Twenty seconds with a soft click in each frame, which the notes of one octave hear alike.
-fn clicks() -> Vec<f32> {
-    (0..160_000).map(|place| if place % 4_096 == 300 { 0.01 } else { 0.0 }).collect()
-}
-
-/// A click where the first frame begins, which no note hears, silence for longer than a window, and a tone.
+/// A click that no note hears, silence for longer than a window, and a tone; twenty seconds.
 fn unheard() -> Vec<f32> {
-    let silence = (0..104_000).map(|place| if place == 0 { 0.5 } else { 0.0 });
-    silence.chain(tone().into_iter().cycle().take(56_000)).collect()
+    let mut samples: Vec<f32> = tone().into_iter().cycle().take(160_000).collect();
+    put_unheard_click(&mut samples[..104_000]);
+    samples
 }
 
 fn filled() -> Folder {
     let folder = Folder::new("tool-forms");
-    folder.put_samples("clicks", &clicks());
+    folder.put_samples("clicks", &clicks(160_000, 4_096));
     folder.put_samples("unheard", &unheard());
     folder.put_samples("tone", &tone());
     folder.put_samples("-tone", &tone());

@@ -3,7 +3,7 @@
 use crate::analysis_calls::Asked;
 use crate::groups::Compared;
 use bench::inputs::dice::Dice;
-use bench::inputs::tracks::{KINDS, Maker, kind};
+use bench::inputs::tracks::{KINDS, Maker, clicks, kind, put_unheard_click};
 use bench::oracle::tables::Tables;
 use std::f64::consts::TAU;
 use std::sync::Arc;
@@ -66,19 +66,11 @@ fn two_keys(rate: u32) -> Vec<f32> {
     (0..length).map(|place| 0.15 * scale(TONICS[2 * place / length], place, rate) as f32).collect()
 }
 
-/// A click where the first frame begins, silence for longer than a local window, then chords.
+/// A click that no note hears, silence for longer than a local window, then chords.
 fn unheard_click(dice: Dice, rate: u32) -> Vec<f32> {
     let mut maker = Maker { dice, rate };
     let mut samples = (kind("chord progression").make)(&mut maker, SHAPELESS_SECONDS * rate as usize);
-    samples[..SILENT_SECONDS * rate as usize].fill(0.0);
-    samples[0] = 0.5;
-    samples
-}
-
-/// A soft click in each frame.
-fn clicks(settings: &Settings) -> Vec<f32> {
-    let mut samples = vec![0.0; SHAPELESS_SECONDS * settings.rate as usize];
-    samples.iter_mut().skip(300).step_by(settings.frame_size).for_each(|x| *x = 0.01);
+    put_unheard_click(&mut samples[..SILENT_SECONDS * rate as usize]);
     samples
 }
 
@@ -107,7 +99,7 @@ fn samples(mut dice: Dice, nth: usize, settings: &Settings) -> (&'static str, Ve
         0 => ("two keys", two_keys(rate)),
         SILENT => ("silence", vec![0.0; dice.below(length)]),
         UNHEARD_CLICK => ("unheard click", unheard_click(dice, rate)),
-        CLICKS => ("clicks", clicks(settings)),
+        CLICKS => ("clicks", clicks(SHAPELESS_SECONDS * rate as usize, settings.frame_size)),
         _ => {
             let kind = &KINDS[nth % KINDS.len()];
             (kind.name, (kind.make)(&mut Maker { dice, rate }, length))

@@ -2,6 +2,7 @@
 use crate::groups::{Groups, compared_as_shown};
 use crate::json::Json;
 use crate::tool_runs::{Folder, text};
+use bench::inputs::tracks::clicks;
 use std::fs;
 use std::path::Path;
 
@@ -108,11 +109,6 @@ const RUNS: [Run; 12] = [
     of_cards("card two silent one --json", 3, NO_CARD),
 ];
 
-/// A soft click in each frame, which the notes of one octave hear alike.
-fn clicks() -> Vec<f32> {
-    (0..882_000).map(|place| if place % 4_096 == 300 { 0.01 } else { 0.0 }).collect()
-}
-
 /// The demo's track in two keys, its front in one, and silence; a card of each; and clicks.
 fn filled() -> Folder {
     let folder = Folder::new("tool-json");
@@ -120,7 +116,7 @@ fn filled() -> Folder {
     let two = folder.read("two").expect("the demo's track");
     folder.put("one", &two[..two.len() / 4]);
     folder.put_samples("silent", &[0.0; 16_000]);
-    folder.put_samples("clicks", &clicks());
+    folder.put_samples("clicks", &clicks(882_000, 4_096));
     let words = ["analyse", "one", "two", "silent", "--rate", "44100", "--cards", "."];
     assert!(folder.run(&words).status.success(), "a card of each");
     folder
