@@ -1,6 +1,6 @@
 mod Parts
 mod Loop
 mod Cuts
-pub mod Plain
+pub mod Unread
 pub mod Tiled
 pub mod Few

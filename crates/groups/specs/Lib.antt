@@ -1,4 +1,4 @@
 pub mod Groups
-pub mod Plain
+pub mod Unread
 pub mod Tiled
 pub mod inside

@@ -1,8 +1,8 @@
 -- A test that passes at every number below a bound passes at each: so a table's rule is computed once and used at each entry.
--- A loop that joins the test of i to what it knows so far has the invariant `sofar ≡ every test i`: `every-more` after a turn.
+-- A loop that joins the test of i to what it knows so far has the invariant `sofar ≡ every test i`, or `sofar ≡ anyBelow test i`: `every-more` or `any-more` after a turn.
 use mathlib.Core.Logic.{inl, inr}
-use mathlib.Core.Path.{_≡_, refl, sym, ap, subst, subst₂, _∙_}
-use mathlib.Core.Bool.{Bool, true, false, _&&_, _||_}
+use mathlib.Core.Path.{_≡_, sym, ap, subst, subst₂, _∙_}
+use mathlib.Core.Bool.{Bool, _&&_, _||_}
 use mathlib.Core.List.{List, [], _∷_, _++_}
 use Prim.Native.Nat.{ℕ, zero, suc, _+_, _-_, _<_, _≤_}
 use native.Mathlib.Numerals.{add-one}
@@ -13,8 +13,7 @@ use lib.ListN.{length, getD, length-append, List·getD-append}
 use lib.Seq.{getD-append-seam}
 use lib.Ieee.Fits.{and-l, and-r, and-i}
 use Rattle.laws.specs.Every.{every, anyBelow, everyPair}
-use Rattle.laws.proofs.Order.{or-split}
-use Rattle.laws.proofs.Cases.{same-test}
+use Rattle.laws.proofs.Cases.{same-test, or-l, or-r, or-split}
 
 pub each : (test : ℕ → Bool) (n : ℕ) → T (every test n) → (k : ℕ) → k < n → T (test k)
 unfolding every
@@ -42,20 +41,13 @@ pub any-more : (test : ℕ → Bool) (i : ℕ) {sofar : Bool} → sofar ≡ anyB
 unfolding anyBelow
 any-more test i e = ap (λ (b : Bool). b || test i) e ∙ rw (add-one, anyBelow)
 
-first-passed : (a b : Bool) → T a → T (a || b)
-first-passed true b t = tt
-
-second-passed : (a b : Bool) → T b → T (a || b)
-second-passed true b t = tt
-second-passed false b t = t
-
 pub any-of : (test : ℕ → Bool) (n k : ℕ) → k < n → T (test k) → T (anyBelow test n)
 unfolding anyBelow
 any-of test zero k h t = absurd (not-suc-le-zero h)
 any-of test (suc n) k h t =
     elim (eq-or-lt-of-le (le-of-suc-le-suc h)) [
-      | inl e ↦ second-passed (anyBelow test n) (test n) (subst (λ (j : ℕ). T (test j)) e t)
-      | inr l ↦ first-passed (anyBelow test n) (test n) (any-of test n k l t)
+      | inl e ↦ or-r (anyBelow test n) (test n) (subst (λ (j : ℕ). T (test j)) e t)
+      | inr l ↦ or-l (anyBelow test n) (test n) (any-of test n k l t)
     ]
 
 pub any-at : (test : ℕ → Bool) (n : ℕ) → T (anyBelow test n) → (k : ℕ) × (k < n) × T (test k)

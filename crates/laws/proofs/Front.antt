@@ -75,6 +75,10 @@ getD-list f (suc n) k d h =
       | inr l ↦ List·getD-append (list f n) (f n ∷ []) d k (rw length-list l) ∙ getD-list f n k d l
     ]
 
+-- and back: equal lists are equal at each entry
+pub list-entry : {A : Type 0} (f g : ℕ → A) (n : ℕ) (d : A) → list f n ≡ list g n → (k : ℕ) → k < n → f k ≡ g k
+list-entry {A} f g n d e k h = sym (getD-list f n k d h) ∙ ap (λ (l : List A). getD l k d) e ∙ getD-list g n k d h
+
 pub replicate-list : {A : Type 0} (n : ℕ) (a : A) → replicate n a ≡ list (λ (k : ℕ). a) n
 replicate-list n a =
     ext-getD a (replicate n a) _ (length-replicate n a ∙ sym (length-list (λ (k : ℕ). a) n))

@@ -11,11 +11,8 @@ use lib.ListN.{length, getD}
 use borrow.Author.Tests.{eq-eqb, eqb-true}
 use Rattle.laws.specs.Lists.{passing, fold}
 use Rattle.laws.specs.Leader.{without, keysMet, Standing, nobody, leads, outdone, lastLargest}
+use Rattle.laws.proofs.Cases.{or-r}
 use Rattle.laws.proofs.Lists.{passing-more, passing-less, passing-twice, passing-swap}
-
-or-later : (a b : Bool) → T b → T (a || b)
-or-later true b t = tt
-or-later false b t = t
 
 -- ---- the keys of a list
 -- whether a list has the key
@@ -52,7 +49,7 @@ pub has-entry : (ks : List ℕ) (j d : ℕ) → j < length ks → T (has (getD k
 unfolding has
 has-entry [] j d h = absurd (not-suc-le-zero h)
 has-entry (k ∷ ks) zero d h = rw (eq-eqb k k refl) tt
-has-entry (k ∷ ks) (suc j) d h = or-later (eqb (getD ks j d) k) (has (getD ks j d) ks) (has-entry ks j d (le-of-suc-le-suc h))
+has-entry (k ∷ ks) (suc j) d h = or-r (eqb (getD ks j d) k) (has (getD ks j d) ks) (has-entry ks j d (le-of-suc-le-suc h))
 
 pub has-place : (key : ℕ) (ks : List ℕ) → T (has key ks) → (j : ℕ) × (j < length ks) × (getD ks j 0 ≡ key)
 unfolding has
@@ -142,7 +139,7 @@ module _ {A : Type 0} (upTo : A → A → Bool) (P : A → Type 0) (ranks : Rank
           newest met key (λ j t. ranks .transitive (amountOf j) amount (amountOf key) (good j) fair (good key) (l .most j t) (subst T (sym e) tt))
       decided false e =
           record {
-            there = or-later (eqb k key) (met k) (l .there);
+            there = or-r (eqb k key) (met k) (l .there);
             own-amount = l .own-amount;
             most = met-or (λ (j : ℕ). T (upTo (amountOf j) amount)) met key (ranks-other upTo P ranks amount (amountOf key) fair (good key) e) (l .most);
           }
@@ -184,4 +181,4 @@ unfolding fold has
 fold-same upTo a b [] same s = refl
 fold-same upTo a b (key ∷ keys) same s =
     ap (λ (x : Standing _). fold (outdone upTo a) x keys) (outdone-same upTo a b s key (same key (rw (eq-eqb key key refl) tt)))
-    ∙ fold-same upTo a b keys (λ k t. same k (or-later (eqb k key) (has k keys) t)) (outdone upTo b s key)
+    ∙ fold-same upTo a b keys (λ k t. same k (or-r (eqb k key) (has k keys) t)) (outdone upTo b s key)

@@ -10,6 +10,7 @@ use lib.Dec.{T, ltb, eqb, eqb→eq, ltb→lt, nltb→le, not-T, T-not}
 use lib.Ieee.{Float, nan, inf, fin, up, down, below, level, lt, eq, le, neg}
 use lib.Ieee.Fits.{down-pos, and-l, and-r, and-i, eq→eqb}
 use Rattle.laws.specs.Values.{ordered, negative, clear}
+use Rattle.laws.proofs.Cases.{or-l, or-split}
 
 -- ---- ±a ≤ ±b, as a statement on naturals
 abbrev Under : Bool → ℕ → Bool → ℕ → Type 0
@@ -42,10 +43,6 @@ unscale k true a false b K h = omega arith
 unscale k true a true b K h = le-of-mul-le-mul-right h K
 
 -- ---- `below` and `level` say `Under`
-pub or-split : (a b : Bool) → T (a || b) → T a ⊎ T b
-or-split true b t = inl tt
-or-split false b t = inr t
-
 meet : (a b : ℕ) → T (eqb a b && (false || eqb a 0)) → a + b ≤ 0
 meet a b t = let p : a ≡ b = eqb→eq a b (and-l (eqb a b) (eqb a 0) t) in let q : a ≡ 0 = eqb→eq a 0 (and-r (eqb a b) (eqb a 0) t) in omega arith
 
@@ -95,10 +92,6 @@ le-refl (inf true) o = tt
 le-refl (inf false) o = tt
 le-refl (fin true m e) o = under→le true (m * up e * down e) true (m * up e * down e) (nat-refl (m * up e * down e))
 le-refl (fin false m e) o = under→le false (m * up e * down e) false (m * up e * down e) (nat-refl (m * up e * down e))
-
-or-l : (a b : Bool) → T a → T (a || b)
-or-l true b t = tt
-or-l false b t = absurd t
 
 pub lt→le : (x y : Float) → T (lt x y) → T (le x y)
 unfolding le

@@ -11,16 +11,12 @@ use lib.Ieee.Bits.{is-true, is-false}
 use Rattle.laws.specs.Order.{totalOrder}
 use Rattle.laws.specs.Pick.{maximumNumber, minimumNumber, LastNumber, MaximumIs, MinimumIs}
 use Rattle.laws.specs.Values.{negative, clear, nonneg, plusZero, Held}
-use Rattle.laws.proofs.Order.{or-split, lt→le, le-left, le-right, le-refl, not-lt→le, le→not-lt, apart-le}
+use Rattle.laws.proofs.Order.{lt→le, le-left, le-right, le-refl, not-lt→le, le→not-lt, apart-le}
 use Rattle.laws.proofs.Nonneg.{nonneg→ordered}
-use Rattle.laws.proofs.Cases.{by-test, passed-or-failed}
+use Rattle.laws.proofs.Cases.{by-test, passed-or-failed, or-r, or-split}
 use Rattle.laws.proofs.Signs.{kind, nan-is, clear-is, negative-is, ordered-of, ordered-is}
 use Rattle.laws.proofs.Held.{le-antisym}
 use Rattle.laws.proofs.Total.{total-order}
-
-second-of : (a b : Bool) → T b → T (a || b)
-second-of true b t = tt
-second-of false b t = t
 
 -- ---- in the total order, where `<` does not say the contrary
 module _ (x y : Float) (n : isNan x ≡ false) (h : T (not (lt y x))) where
@@ -32,7 +28,7 @@ module _ (x y : Float) (n : isNan x ≡ false) (h : T (not (lt y x))) where
   minus-first s = ranked (subst (λ (b : Bool). T (b || not (negative y))) (sym (is-true (negative x) s)) tt)
 
   plus-last : T (not (negative y)) → T (totalOrder x y)
-  plus-last s = ranked (second-of (negative x) (not (negative y)) s)
+  plus-last s = ranked (or-r (negative x) (not (negative y)) s)
 
 itself : (x : Float) → T (totalOrder x x)
 itself x = elim (kind x) [
@@ -80,7 +76,7 @@ eq-swap (fin s m e) (fin t n d) h = level-swap s (m * up e * down d) t (n * up d
 
 -- equal numbers are not below each other
 level-under : (x y : Float) → T (eq x y) → T (not (lt y x))
-level-under x y h = le→not-lt x y (unfold le in second-of (lt x y) (eq x y) h)
+level-under x y h = le→not-lt x y (unfold le in or-r (lt x y) (eq x y) h)
 
 -- numbers of which the second is not below the first, by `<` and by the sign of equals
 in-order : (x y : Float) → isNan x ≡ false → isNan y ≡ false → T (not (lt y x)) → (T (eq x y) → T (not (negative y))) → T (totalOrder x y)
@@ -110,7 +106,7 @@ compared-number z y h e = rw e at (le-right z y h)
 
 eq→le : (x y : Float) → T (eq x y) → T (le x y)
 unfolding le
-eq→le x y h = second-of (lt x y) (eq x y) h
+eq→le x y h = or-r (lt x y) (eq x y) h
 
 not-nan-of : (x : Float) → isNan x ≡ false → T (isNan x) → ⊥
 not-nan-of x n t = rw n at t

@@ -1,7 +1,7 @@
 -- A bound that is no zero and no NaN parts values as its order key does, so counting by `<` counts by keys.
 use mathlib.Core.Path.{_≡_, refl, sym, ap, _∙_, subst}
 use mathlib.Core.Logic.{_⊎_, inl, inr}
-use mathlib.Core.Bool.{Bool, true, false, not, _||_, cond}
+use mathlib.Core.Bool.{Bool, true, false, not, cond}
 use mathlib.Core.List.{List}
 use Prim.Native.Nat.{ℕ, zero, suc, _+_}
 use native.Mathlib.Nat.{not-le-of-lt}
@@ -9,10 +9,11 @@ use native.Mathlib.Numerals.{add-one}
 use lib.Dec.{T, ltb, leb, leb→le, nleb→lt, lt→ltb, ltb→lt}
 use lib.ListN.{getD}
 use lib.Ieee.{Float, nan, binary32, isNan, lt}
+use lib.Ieee.Bits.{is-false}
 use Rattle.laws.specs.Order.{totalOrder, orderKey}
 use Rattle.laws.specs.Turns.{turns}
 use Rattle.laws.specs.Values.{negative, plusZero, clear}
-use Rattle.laws.proofs.Cases.{passed-or-failed, same-test}
+use Rattle.laws.proofs.Cases.{passed-or-failed, same-test, or-split}
 use Rattle.laws.proofs.Order.{lt-not-le, lt-of-le-of-lt, lt→le, le-left, le-right, apart-le}
 use Rattle.laws.proofs.Zero.{plusZero-least}
 use Rattle.laws.proofs.Signs.{kind, clear-is, negative-is}
@@ -21,14 +22,6 @@ use Rattle.laws.proofs.Total.{total-order}
 use Rattle.ranks.specs.inside.Search.{countTurn, countBelow}
 use Rattle.ranks.specs.inside.Narrow.{divides, underTurn, countUnder}
 use Rattle.ranks.proofs.Sorted.{InSingle}
-
-is-not : (b : Bool) → T (not b) → b ≡ false
-is-not true h = absurd h
-is-not false h = refl
-
-either : (a b : Bool) → T (a || b) → T a ⊎ T b
-either true b h = inl tt
-either false b h = inr h
 
 -- ---- a bound has the sign minus, or is above zero
 below-zero : (b : Float) → T (lt b plusZero) → (b ≡ nan) ⊎ (T (clear b) ⊎ T (negative b)) → T (negative b)
@@ -76,7 +69,7 @@ module _ (b : Float) (d : T (divides b)) (g : InSingle b) where
       back : T (ltb (orderKey binary32 x) (orderKey binary32 b)) → T (lt x b)
       back l = elim (passed-or-failed (lt x b)) [
         | inl t ↦ t
-        | inr n ↦ absurd (not-le-of-lt (ltb→lt (orderKey binary32 x) (orderKey binary32 b) l) (leb→le (orderKey binary32 b) (orderKey binary32 x) (subst T (sym (bound-before b x (either (lt b plusZero) (lt plusZero b) d) (kind x) (is-not (lt x b) n)) ∙ by-key) tt)))
+        | inr n ↦ absurd (not-le-of-lt (ltb→lt (orderKey binary32 x) (orderKey binary32 b) l) (leb→le (orderKey binary32 b) (orderKey binary32 x) (subst T (sym (bound-before b x (or-split (lt b plusZero) (lt plusZero b) d) (kind x) (is-false (lt x b) n)) ∙ by-key) tt)))
       ]
 
   pub count-under-is : (ws : List Float) → ((i : ℕ) → InSingle (getD ws i nan)) → (n : ℕ) → countUnder ws n b ≡ countBelow ws n (orderKey binary32 b)

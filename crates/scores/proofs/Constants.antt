@@ -1,7 +1,7 @@
 -- The checker computes the constants from the profiles, once for all rows and roots.
-use mathlib.Core.Path.{_≡_, refl, sym, ap, _∙_}
+use mathlib.Core.Path.{_≡_, refl, ap, _∙_}
 use Prim.Native.Nat.{ℕ, _<_}
-use mathlib.Core.List.{List, []}
+use mathlib.Core.List.{[]}
 use lib.Dec.{T, ltb, ltb→lt}
 use lib.ListN.{getD}
 use lib.Ieee.{Float, nan, ofBits, add, sub, mul, div}
@@ -9,16 +9,12 @@ use Rattle.laws.specs.Turns.{turns}
 use Rattle.laws.specs.Every.{every}
 use Rattle.laws.specs.Front.{list}
 use Rattle.laws.proofs.Every.{each}
-use Rattle.laws.proofs.Front.{getD-list}
+use Rattle.laws.proofs.Front.{list-entry}
 use Rattle.numbers.specs.Sum.{sumOf}
 use Rattle.correlations.specs.Correlation.{meanOf}
 use Rattle.correlations.specs.inside.Divisors.{energyAt}
 use Rattle.scores.specs.Profiles.{profiles, profileAt}
 use Rattle.scores.specs.inside.Constants.{means, energies, energyPlaces, meanAt, placeAt, ConstantsOfProfiles}
-
--- equal lists are equal at each entry
-entry : {A : Type 0} (f g : ℕ → A) (n : ℕ) (d : A) → list f n ≡ list g n → (k : ℕ) → k < n → f k ≡ g k
-entry {A = A} f g n d e k h = sym (getD-list f n k d h) ∙ ap (λ (l : List A). getD l k d) e ∙ getD-list g n k d h
 
 -- the eight means
 means-computed : list meanAt 8 ≡ list (λ (row : ℕ). meanOf (profileAt row)) 8
@@ -36,11 +32,11 @@ unfolding every energyPlaces
 places-computed = tt
 
 mean-is : (row : ℕ) → row < 8 → meanAt row ≡ meanOf (profileAt row)
-mean-is = entry meanAt (λ (row : ℕ). meanOf (profileAt row)) 8 nan means-computed
+mean-is = list-entry meanAt (λ (row : ℕ). meanOf (profileAt row)) 8 nan means-computed
 
 pub constants-of-profiles : ConstantsOfProfiles
 constants-of-profiles = record {
   mean = mean-is;
   place = λ row root h l. ltb→lt (placeAt row root) 17 (each (λ (n : ℕ). ltb (placeAt row n) 17) 12 (each (λ (m : ℕ). every (λ (n : ℕ). ltb (placeAt m n) 17) 12) 8 places-computed row h) root l);
-  energy = λ row root h l. entry _ _ 12 nan (entry _ _ 8 [] energies-computed row h) root l ∙ ap (λ (mean : Float). energyAt (profileAt row) mean root) (mean-is row h);
+  energy = λ row root h l. list-entry _ _ 12 nan (list-entry _ _ 8 [] energies-computed row h) root l ∙ ap (λ (mean : Float). energyAt (profileAt row) mean root) (mean-is row h);
 }

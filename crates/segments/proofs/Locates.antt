@@ -13,7 +13,7 @@ use Rattle.laws.proofs.Cases.{lt-or-ge}
 use Rattle.laws.proofs.Column.{column-fits}
 use Rattle.keys.specs.Numbers.{keyNumber}
 use Rattle.timeline.specs.Estimates.{EstimateRows, holdingEstimates}
-use Rattle.timeline.specs.inside.Estimates.{columnsOf, plain, estimatesIn, Found}
+use Rattle.timeline.specs.inside.Estimates.{columnsOf, asRead, estimatesIn, Found}
 use Rattle.timeline.specs.Segments.{SegmentRows}
 use Rattle.timeline.specs.inside.Segments.{Room, filledRows}
 use Rattle.timeline.specs.declared.estimate.Estimate.{Estimate}
@@ -28,7 +28,7 @@ use Rattle.windows.specs.declared.run.Estimated.{Estimated}
 use Rattle.windows.specs.declared.run.Estimated.the-variants.{All, Stuck}
 use Rattle.windows.proofs.Found.{estimates-few}
 use Rattle.windows.proofs.Spans.{windows-few}
-use Rattle.groups.proofs.Plain.{shape-unread}
+use Rattle.groups.proofs.Unread.{shape-unread}
 use Rattle.shortening.specs.inside.Settled.{settled}
 use Rattle.segments.specs.inside.Fill.{filledOf}
 use Rattle.segments.specs.inside.Located.{locatedIn, toldIn, locatedOf, Prepared}
@@ -69,7 +69,7 @@ held-found found before few =
     }
 
 -- filling does not read whether chromas have a shape
-fill-unread : (t : Track) (found : List Estimate) (before : SegmentRows) → filledOf t (map plain found) before ≡ filledOf t found before
+fill-unread : (t : Track) (found : List Estimate) (before : SegmentRows) → filledOf t (map asRead found) before ≡ filledOf t found before
 unfolding filledOf
 fill-unread t found before = ap (λ (cut : List Segment). settled (t .minimum) cut before) (shape-unread (t .threshold) (t .duration) (t .key) (t .confidence) found)
 
@@ -145,7 +145,7 @@ module _ (s : Span) (h : Heard) (before : EstimateRows) {windows : ℕ} (all : w
   unfolding locatedOf
   told-all t segments {n} {rows = rows} a run fill =
       let told = says (sym (ap (λ (x : Estimated). swept x rows) a) ∙ run) in
-      let read : estimatesIn (columnsOf rows) n ≡ map plain found = ap (λ (r : EstimateRows). estimatesIn (columnsOf r) n) (told .held) ∙ ap (estimatesIn (columnsOf (holdingEstimates found before))) (told .count) ∙ rows-read-back found before in
+      let read : estimatesIn (columnsOf rows) n ≡ map asRead found = ap (λ (r : EstimateRows). estimatesIn (columnsOf r) n) (told .held) ∙ ap (estimatesIn (columnsOf (holdingEstimates found before))) (told .count) ∙ rows-read-back found before in
       ap (toldIn n rows) (fill ∙ ap (λ (l : List Estimate). filledOf t l segments) read ∙ fill-unread t found segments)
       ∙ ap (λ (k : ℕ). toldIn k rows (filledOf t found segments)) (told .count)
       ∙ ap (λ (r : EstimateRows). toldIn (length found) r (filledOf t found segments)) (told .held)

@@ -42,16 +42,16 @@ abbrev pub columnsOf : EstimateRows → Columns
 columnsOf r = columns (r .centres) (r .keys) (r .confidences)
 
 -- an estimate of which nothing else is known: the columns do not say whether its chroma has no shape
-abbrev pub plainly : Float → Key → Float → Estimate
-plainly centre key confidence = record { centre = centre; key = key; confidence = confidence; shapeless = false }
+abbrev pub estimateRead : Float → Key → Float → Estimate
+estimateRead centre key confidence = record { centre = centre; key = key; confidence = confidence; shapeless = false }
 
 -- an estimate as far as segments read it
-abbrev pub plain : Estimate → Estimate
-plain e = plainly (e .centre) (e .key) (e .confidence)
+abbrev pub asRead : Estimate → Estimate
+asRead e = estimateRead (e .centre) (e .key) (e .confidence)
 
 -- the estimate in row i, so far
 unfoldable pub estimateIn : Columns → ℕ → Estimate
-estimateIn c i = plainly (getD (c .centres) i nan) (keyAt (getD (c .keys) i 0)) (getD (c .confidences) i nan)
+estimateIn c i = estimateRead (getD (c .centres) i nan) (keyAt (getD (c .keys) i 0)) (getD (c .confidences) i nan)
 
 -- the estimates in the first rows
 abbrev pub estimatesIn : Columns → ℕ → List Estimate
