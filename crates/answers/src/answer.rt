@@ -64,6 +64,7 @@ fn with_key(
     ensures { λ r. ⌜ r ≡ answerOf 0 0 (keyNumber reported) alternate coverage (verdict .confidence) (verdict .shapeless) counts (verdict .chroma) ⌝ }
 {
     let key = key_number(reported) as u32;
+    let shapeless = one_if(verdict.shapeless) as u32;
     let chroma = verdict.chroma;
     AnalyseResult {
         refusal: 0,
@@ -73,7 +74,7 @@ fn with_key(
         alternate,
         coverage,
         confidence: verdict.confidence,
-        shapeless: one_if(verdict.shapeless) as u32,
+        shapeless,
         frames: counts.frames as u64,
         estimates: counts.estimates as u64,
         segments: counts.segments as u64,

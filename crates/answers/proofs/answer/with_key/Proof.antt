@@ -12,11 +12,11 @@ cast-key c = search needs
 one-if-requires : tie.Need-one-if-requires
 one-if-requires c κs = search needs
 
-cast-t9 : tie.Need-cast-t9
-cast-t9 c = search needs
+cast-shapeless : tie.Need-cast-shapeless
+cast-shapeless c = search needs
 
 returns : tie.Need-returns
-returns c = rw (c .one-if .ensures, c .before .before .key-number .ensures)
+returns c = rw (c .before .one-if .ensures, c .before .before .key-number .ensures)
 
 pub with-key-spec : {M : Type 1} → statement M
-with-key-spec = tie.close (tie.spec key-number-requires cast-key one-if-requires cast-t9 returns)
+with-key-spec = tie.close (tie.spec key-number-requires cast-key one-if-requires cast-shapeless returns)
