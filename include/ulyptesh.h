@@ -38,7 +38,7 @@ extern "C" {
 /* The number of the interface; it grows when a struct, a parameter or a meaning changes, and ulyptesh_abi answers the
    library's own. A new call leaves it, so a program that loads the library at run time compares the two, and looks up a
    call that is newer by its name. */
-#define ULYPTESH_ABI 2
+#define ULYPTESH_ABI 3
 /* Numbers in a chroma, from C upward. */
 #define ULYPTESH_PITCH_CLASSES 12
 /* Keys, and so scores of a chroma. */
@@ -56,8 +56,8 @@ extern "C" {
 /* Segments of a card of so many bytes, 7 or more. */
 #define ULYPTESH_CARD_SEGMENTS(bytes) ((8 * (size_t)(bytes) - 49) / 39)
 
-/* Why a call refuses. The first of 1 to 8 that applies is answered, and the first of 20 to 24. All but 9 and 10 write
-   nothing but the answer. Numbers that are missing are not given. */
+/* Why a call refuses. The first of 1, 2, 3, 13, 4, 5, 6, 7 and 8 that applies is answered, in this order, and the first
+   of 20 to 24. All but 9 and 10 write nothing but the answer. Numbers that are missing are not given. */
 typedef enum UlypteshRefusal {
     /* not refused; a track that tells no key has this too, with key 24 */
     ULYPTESH_DONE = 0,
@@ -85,6 +85,8 @@ typedef enum UlypteshRefusal {
     ULYPTESH_UNWRITABLE = 11,
     /* fewer bytes are lent than the name or card has, and 11 does not apply */
     ULYPTESH_TOO_FEW_BYTES = 12,
+    /* analyse, frames: the engine is neither 0 nor 1 */
+    ULYPTESH_UNKNOWN_ENGINE = 13,
     /* scores, key: a chroma not of 12 numbers, or room for fewer than 24 scores */
     ULYPTESH_WRONG_LENGTH = 18,
     /* read card: under 7 bytes or, where the layout is known, another length than the card's segment count gives */
@@ -97,9 +99,18 @@ typedef enum UlypteshRefusal {
     ULYPTESH_TOO_FEW_CARD_ROWS = 24
 } UlypteshRefusal;
 
+/* How the Goertzel magnitudes of a frame's notes are worked out. Both engines give the same numbers, bit for bit, so
+   every answer is the same; only the time differs. */
+typedef enum UlypteshEngine {
+    /* all notes side by side: the faster one, which settings that are zeroed first have */
+    ULYPTESH_SIDE_BY_SIDE = 0,
+    /* four notes at a time, and the odd ones at the end singly, as in the Rust that was ported */
+    ULYPTESH_FOUR_AT_A_TIME = 1
+} UlypteshEngine;
+
 /* What a call is asked. Nothing is analysed, without a refusal, where the rate or the hop size is 0, the frame size is
    below 32 or above the samples, the lowest note is above the highest, or the local window or hop is not above 0; this
-   is judged after 3 and before 4. */
+   is judged after 13 and before 4. */
 typedef struct UlypteshSettings {
     uint32_t rate; /* samples a second */
     size_t frame_size; /* samples in a frame */
@@ -110,6 +121,7 @@ typedef struct UlypteshSettings {
     float alternate_coverage_threshold; /* the part of the track from which an alternate is named; 0: never */
     float segment_confidence_threshold; /* the confidence from which a window of another key starts a segment */
     float minimum_segment_seconds; /* a shorter segment is joined to a neighbour */
+    uint32_t engine; /* a UlypteshEngine; any other number is refused */
 } UlypteshSettings;
 
 /* What a table sheet was made for: the call's rate, notes and frame size. Row k of a sheet is for the lowest note plus
@@ -275,7 +287,7 @@ uint32_t ulyptesh_abi(void);
 /* The library was compiled for structs of these sizes: with another one this header does not compile. */
 #define ULYPTESH_IS_OF(type, bytes) \
     typedef char type##_has_another_size_in_the_library[sizeof(type) == (bytes) ? 1 : -1]
-ULYPTESH_IS_OF(UlypteshSettings, 48);
+ULYPTESH_IS_OF(UlypteshSettings, 56);
 ULYPTESH_IS_OF(UlypteshSheetHead, 16);
 ULYPTESH_IS_OF(UlypteshScoresResult, 8);
 ULYPTESH_IS_OF(UlypteshKeyResult, 24);

@@ -21,6 +21,12 @@ pub mod expose {
         pub fn new(sample_rate: u32, config: KeyConfig) -> Self {
             Self(GoertzelTable::new(sample_rate, config))
         }
+        /// The same table with these coefficients, one for each row.
+        pub fn with_coefficients(mut self, coefficients: &[f32]) -> Self {
+            let rows = self.0.notes.iter_mut().zip(coefficients);
+            rows.for_each(|(note, &coefficient)| note.coefficient = coefficient);
+            self
+        }
         pub fn rows(&self) -> Vec<GoertzelRow> {
             self.0
                 .notes
@@ -87,6 +93,9 @@ pub mod expose {
     }
     pub fn goertzel_power_prewindowed(samples: &[f32], coefficient: f32) -> f32 {
         super::goertzel_power_prewindowed(samples, coefficient)
+    }
+    pub fn goertzel_power_batch_4(samples: &[f32], coefficients: [f32; 4]) -> [f32; 4] {
+        super::goertzel_power_batch_4(samples, coefficients)
     }
     pub fn normalize_pitch_class_weights(chroma: &mut [f32; 12], weights: &[f32; 12]) {
         super::normalize_pitch_class_weights(chroma, weights);

@@ -177,7 +177,7 @@ static int no_rows(void)
 
 /* Half a minute that is equally strong in twelve notes, or stronger in some: a click ends each frame, which all notes
    hear alike, and one before it they do not. It has four windows, over so many rows for their shapes. */
-static UlypteshAnalyseResult analysed_clicks(float before_last, size_t shapeless_rows)
+static UlypteshAnalyseResult analysed_clicks(float before_last, size_t shapeless_rows, uint32_t engine)
 {
     static const float COEFFICIENTS[12] = {2, 1, 1, 0, 1.5f, 0, -1, 1.5f, -1, 0, -2, 0};
     static const float WEIGHTS[12] = {1, 1, 1, 1, 1, 1, 1, 1, 1, 1, 1, 1};
@@ -186,6 +186,7 @@ static UlypteshAnalyseResult analysed_clicks(float before_last, size_t shapeless
     settings.hop_size = settings.frame_size;
     settings.minimum_midi_note = 60;
     settings.maximum_midi_note = 71;
+    settings.engine = engine;
     for (size_t at = 0; at < settings.frame_size; at++)
         window[at] = 1.0f;
     for (size_t end = settings.frame_size; end <= LONG; end += settings.frame_size) {
@@ -198,13 +199,13 @@ static UlypteshAnalyseResult analysed_clicks(float before_last, size_t shapeless
 /* An even track and its windows have no shape, one that is not even has one, and a row too few is refused. */
 static int track_shapes(void)
 {
-    UlypteshAnalyseResult told = analysed_clicks(0.0f, 4);
+    UlypteshAnalyseResult told = analysed_clicks(0.0f, 4, ULYPTESH_SIDE_BY_SIDE);
     int done = HOLDS(told.refusal == ULYPTESH_DONE && told.key < ULYPTESH_NO_KEY && told.estimates == 4)
         && HOLDS(told.shapeless == 1 && marked(4, 1));
-    told = analysed_clicks(0.25f, ROOM);
+    told = analysed_clicks(0.25f, ROOM, ULYPTESH_SIDE_BY_SIDE);
     done = done && HOLDS(told.refusal == ULYPTESH_DONE && told.key < ULYPTESH_NO_KEY && told.estimates == 4)
         && HOLDS(told.shapeless == 0 && marked(4, 0));
-    told = analysed_clicks(0.0f, 3);
+    told = analysed_clicks(0.0f, 3, ULYPTESH_SIDE_BY_SIDE);
     return done && HOLDS(told.refusal == ULYPTESH_TOO_FEW_ROWS && told.key == ULYPTESH_NO_KEY)
         && HOLDS(told.shapeless == 0 && marked(0, 0));
 }
@@ -216,6 +217,80 @@ static int other_sheet(void)
     UlypteshSettings settings = ulyptesh_easy_settings(48000);
     return HOLDS(analysed(settings, head, SHORT, 0).refusal == ULYPTESH_SHEET_OF_ANOTHER_CALL)
         && HOLDS(heard(settings, head, SHORT, 0).refusal == ULYPTESH_SHEET_OF_ANOTHER_CALL);
+}
+
+/* A number that is no engine. */
+#define NO_ENGINE 2
+
+/* A track that is analysed with either engine is refused with another number, and no row is written. */
+static int engine_refused(void)
+{
+    UlypteshAnalyseResult told = analysed_clicks(0.0f, ROOM, ULYPTESH_FOUR_AT_A_TIME);
+    int done = HOLDS(told.refusal == ULYPTESH_DONE && told.frames > 0 && energies[0] > 0.0f && marked(4, 1));
+    energies[0] = -1.0f;
+    told = analysed_clicks(0.0f, ROOM, NO_ENGINE);
+    done = done && HOLDS(told.refusal == ULYPTESH_UNKNOWN_ENGINE && told.key == ULYPTESH_NO_KEY && told.frames == 0)
+        && HOLDS(energies[0] == -1.0f && marked(0, 0));
+    return done && HOLDS(analysed_clicks(0.0f, ROOM, UINT32_MAX).refusal == ULYPTESH_UNKNOWN_ENGINE);
+}
+
+/* Whether analyse and frames answer these numbers, over a sheet whose window alone has entries. */
+static int both_answer(UlypteshSettings settings, UlypteshSheetHead head, size_t samples, size_t window,
+                       uint32_t analyse_says, uint32_t frames_say)
+{
+    return HOLDS(analysed(settings, head, samples, window).refusal == analyse_says)
+        && HOLDS(heard(settings, head, samples, window).refusal == frames_say);
+}
+
+/* Whether they answer these, and 13 where the engine is unknown too. */
+static int engine_first(UlypteshSettings settings, UlypteshSheetHead head, size_t samples, size_t window,
+                        uint32_t analyse_says, uint32_t frames_say)
+{
+    UlypteshSettings unknown = settings;
+    unknown.engine = NO_ENGINE;
+    return both_answer(settings, head, samples, window, analyse_says, frames_say)
+        && both_answer(unknown, head, samples, window, ULYPTESH_UNKNOWN_ENGINE, ULYPTESH_UNKNOWN_ENGINE);
+}
+
+/* What is judged after the engine: that there is nothing to analyse, without samples or with a hop of 0, and 4 to 8. */
+static int engine_before_others(void)
+{
+    UlypteshSettings good = rowless(), still = good, slow = good, hasty = good, lower = good;
+    UlypteshSheetHead head = head_for(good);
+    size_t window = good.frame_size;
+    still.hop_size = 0;
+    slow.rate = 1;
+    hasty.local_hop_seconds = 0.4f;
+    lower.minimum_midi_note = 126;
+    return engine_first(good, head, 0, window, ULYPTESH_DONE, ULYPTESH_DONE)
+        && engine_first(still, head, SHORT, window, ULYPTESH_DONE, ULYPTESH_DONE)
+        && engine_first(slow, head, SHORT, window, ULYPTESH_TRACK_TOO_LONG, ULYPTESH_TRACK_TOO_LONG)
+        && engine_first(hasty, head, SHORT, window, ULYPTESH_LOCAL_HOP_TOO_SHORT, ULYPTESH_TOO_FEW_ROWS)
+        && engine_first(lower, head, SHORT, window, ULYPTESH_SHEET_OF_ANOTHER_CALL, ULYPTESH_SHEET_OF_ANOTHER_CALL)
+        && engine_first(good, head, SHORT, 0, ULYPTESH_SHEET_NOT_WELL_FORMED, ULYPTESH_SHEET_NOT_WELL_FORMED)
+        && engine_first(good, head, SHORT, window, ULYPTESH_TOO_FEW_ROWS, ULYPTESH_TOO_FEW_ROWS);
+}
+
+/* What is judged before it: 1 to 3. */
+static int engine_after_others(void)
+{
+    UlypteshSettings fast = rowless(), wide, vague;
+    UlypteshSheetHead head = head_for(fast);
+    size_t window = fast.frame_size;
+    fast.engine = NO_ENGINE;
+    wide = vague = fast;
+    fast.rate = 192001;
+    wide.hop_size = 1048577;
+    vague.minimum_segment_seconds = NAN;
+    return both_answer(fast, head, SHORT, window, ULYPTESH_RATE_TOO_HIGH, ULYPTESH_RATE_TOO_HIGH)
+        && both_answer(wide, head, SHORT, window, ULYPTESH_SIZE_TOO_LARGE, ULYPTESH_SIZE_TOO_LARGE)
+        && both_answer(vague, head, SHORT, window, ULYPTESH_SETTING_NOT_FINITE, ULYPTESH_SETTING_NOT_FINITE);
+}
+
+/* An unknown engine beside whatever else is wrong. */
+static int engine_in_order(void)
+{
+    return engine_after_others() && engine_before_others();
 }
 
 /* The key that is reported may be second: A minor, close behind C major and with a louder tonic. */
@@ -468,7 +543,8 @@ static int refused(UlypteshSettings settings, uint32_t expected)
 /* Settings by which no track can be analysed. */
 static int settings_refused(void)
 {
-    UlypteshSettings fast = usual(), wide = fast, vague = fast, hasty = fast, still = fast, turned = fast, slow = fast;
+    UlypteshSettings fast = usual(), wide = fast, vague = fast, hasty = fast, still = fast, turned = fast, slow = fast,
+                     unknown = fast;
     fast.rate = 192001;
     wide.frame_size = SIZE_MAX;
     vague.minimum_segment_seconds = NAN;
@@ -477,11 +553,12 @@ static int settings_refused(void)
     turned.minimum_midi_note = turned.maximum_midi_note + 1;
     slow.rate = 1;
     slow.frame_size = ULYPTESH_LONGEST_TRACK_SECONDS + 1;
+    unknown.engine = NO_ENGINE;
     return refused(fast, ULYPTESH_RATE_TOO_HIGH) && refused(wide, ULYPTESH_SIZE_TOO_LARGE)
         && refused(vague, ULYPTESH_SETTING_NOT_FINITE) && refused(hasty, ULYPTESH_LOCAL_HOP_TOO_SHORT)
         && refused(still, ULYPTESH_EASY_NOTHING_ANALYSED) && refused(turned, ULYPTESH_EASY_NOTHING_ANALYSED)
         && refused(ulyptesh_easy_settings(0), ULYPTESH_EASY_NOTHING_ANALYSED)
-        && refused(slow, ULYPTESH_EASY_NOTHING_ANALYSED);
+        && refused(slow, ULYPTESH_EASY_NOTHING_ANALYSED) && refused(unknown, ULYPTESH_UNKNOWN_ENGINE);
 }
 
 /* A major third and a fifth over C. */
@@ -535,6 +612,56 @@ static int told_as_c_major(UlypteshEasy *easy, size_t samples)
         && HOLDS(ulyptesh_easy_write_card(easy, card, sizeof card).length == sizeof card);
 }
 
+/* Whether two loud frames are the same, bit for bit. */
+static int same_frame(UlypteshEasyFrame one, UlypteshEasyFrame other)
+{
+    return memcmp(&one.centre, &other.centre, sizeof one.centre) == 0
+        && memcmp(one.chroma, other.chroma, sizeof one.chroma) == 0
+        && memcmp(&one.energy, &other.energy, sizeof one.energy) == 0;
+}
+
+/* Whether two answers are the same behind their refusals, bit for bit; the only gap stands before that. */
+static int same_answer(const UlypteshAnalyseResult *one, const UlypteshAnalyseResult *other)
+{
+    size_t front = offsetof(UlypteshAnalyseResult, position);
+    return memcmp((const char *)one + front, (const char *)other + front, sizeof *one - front) == 0;
+}
+
+/* Whether the tone is told alike by two that differ in their engines: the answer, each loud frame, the card. */
+static int told_alike(UlypteshEasy *one, UlypteshEasy *other)
+{
+    uint8_t card[ULYPTESH_CARD_BYTES(1)], other_card[sizeof card];
+    UlypteshAnalyseResult told, other_told;
+    int done = HOLDS(ulyptesh_easy_analyse(one, tone, SHORT, &told) == ULYPTESH_DONE)
+        && HOLDS(ulyptesh_easy_analyse(other, tone, SHORT, &other_told) == ULYPTESH_DONE)
+        && HOLDS(told.key < ULYPTESH_NO_KEY && told.frames > 0 && same_answer(&told, &other_told));
+    for (size_t at = 0; done && at < told.frames; at++)
+        done = HOLDS(same_frame(ulyptesh_easy_frame(one, at), ulyptesh_easy_frame(other, at)));
+    return done && HOLDS(ulyptesh_easy_write_card(one, card, sizeof card).length == sizeof card)
+        && HOLDS(ulyptesh_easy_write_card(other, other_card, sizeof card).length == sizeof card)
+        && HOLDS(memcmp(card, other_card, sizeof card) == 0);
+}
+
+/* One note to nine: up to two batches of four, with up to three odd notes behind them. */
+static int engines_agree(void)
+{
+    int done = 1;
+    fill_tone();
+    for (uint8_t highest = 60; highest <= 68; highest++) {
+        uint32_t status, other_status;
+        UlypteshSettings settings = usual();
+        settings.minimum_midi_note = 60;
+        settings.maximum_midi_note = highest;
+        UlypteshEasy *one = ulyptesh_easy_new_for(settings, &status);
+        settings.engine = ULYPTESH_FOUR_AT_A_TIME;
+        UlypteshEasy *other = ulyptesh_easy_new_for(settings, &other_status);
+        done = done && HOLDS(status == ULYPTESH_DONE && other_status == ULYPTESH_DONE) && told_alike(one, other);
+        ulyptesh_easy_free(one);
+        ulyptesh_easy_free(other);
+    }
+    return done;
+}
+
 /* One memory for tracks of several lengths, a refused one among them. */
 static int tracks_in_turn(void)
 {
@@ -585,6 +712,8 @@ static const struct {
     {"no-rows", no_rows},
     {"track-shapes", track_shapes},
     {"other-sheet", other_sheet},
+    {"engine-refused", engine_refused},
+    {"engine-in-order", engine_in_order},
     {"relative-key", relative_key},
     {"no-score", no_score},
     {"chroma-shapes", chroma_shapes},
@@ -595,6 +724,7 @@ static const struct {
     {"ends-rounded-down", ends_rounded_down},
     {"cards-rounded", cards_rounded},
     {"settings-refused", settings_refused},
+    {"engines-agree", engines_agree},
     {"tracks-in-turn", tracks_in_turn},
     {"no-memory", no_memory},
 };

@@ -318,6 +318,7 @@ UlypteshSettings ulyptesh_easy_settings(uint32_t rate)
     settings.alternate_coverage_threshold = 0.25f;
     settings.segment_confidence_threshold = 0.35f;
     settings.minimum_segment_seconds = 12.0f;
+    settings.engine = ULYPTESH_SIDE_BY_SIDE;
     return settings;
 }
 
@@ -448,6 +449,7 @@ const char *ulyptesh_easy_words(uint32_t status)
     case ULYPTESH_WINDOW_STAYS: return "the start of a window did not grow by the hop";
     case ULYPTESH_UNWRITABLE: return "no key has this number, or no card can be written";
     case ULYPTESH_TOO_FEW_BYTES: return "more bytes are needed";
+    case ULYPTESH_UNKNOWN_ENGINE: return "the engine is neither 0 nor 1";
     case ULYPTESH_WRONG_LENGTH: return "a chroma has 12 numbers, and 24 scores";
     case ULYPTESH_CARD_WRONG_LENGTH: return "the card is too short, or not as long as its segment count gives";
     case ULYPTESH_CARD_UNKNOWN_LAYOUT: return "the card's layout is not known";

@@ -46,7 +46,7 @@ typedef struct UlypteshEasyFrame {
     float energy;
 } UlypteshEasyFrame;
 
-/* The usual settings for tracks of this rate. */
+/* The usual settings for tracks of this rate, every one of them; the engine is ULYPTESH_SIDE_BY_SIDE. */
 UlypteshSettings ulyptesh_easy_settings(uint32_t rate);
 
 /* For tracks of this rate, by the usual settings or by others. NULL where that fails, and the status tells why:

@@ -1,4 +1,4 @@
--- The whole analysis, written from the Rust's `analyze` with document 01's checks before it. Definitions only.
+-- The whole analysis, written from the Rust's `analyze` with the check table before it. Definitions only.
 use lib.ListN.{length}
 use Rattle.laws.specs.Table.{anyOf}
 use Rattle.calls.specs.Call.{Call}

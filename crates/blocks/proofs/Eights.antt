@@ -5,10 +5,11 @@ use Prim.Native.Nat.{ℕ, _+_, _*_, _<_, _≤_}
 use native.Mathlib.Omega.{arith}
 use lib.Ieee.{Float}
 use Rattle.laws.specs.Front.{list}
+use Rattle.filters.specs.Four.{fourAlone}
+use Rattle.filters.specs.declared.four.Four.{Four}
 use Rattle.constant_q.specs.inside.Lanes.{FourLie, lanePower, fourDelays}
 use Rattle.constant_q.specs.declared.lanes.Lane.{Lane}
 use Rattle.constant_q.specs.declared.lanes.Lanes.{Lanes}
-use Rattle.constant_q.specs.declared.lanes.Powers.{Powers}
 use Rattle.blocks.specs.inside.Eight.{laterBy, fourApart, EightLie, eightDelays, powersLeft, eightPowers}
 use Rattle.blocks.specs.declared.eight.Eight.{Eight}
 
@@ -43,7 +44,7 @@ module _ (samples windows : List Float) (hop : ℕ) (lane : Lane) where
       (first .a ∷ first .b ∷ first .c ∷ first .d ∷ second .a ∷ second .b ∷ second .c ∷ second .d ∷ [])
 
   told-by-starts : powersAt (fourApart hop lane) (fourApart hop (laterBy (4 * hop) lane)) ≡ eightPowers samples windows hop lane
-  unfolding eightPowers list powersLeft fourDelays lanePower
+  unfolding eightPowers list powersLeft fourAlone lanePower
   told-by-starts =
       let s = lane .start in
       let a : s ≡ s + 0 * hop = omega arith in
@@ -54,7 +55,7 @@ module _ (samples windows : List Float) (hop : ℕ) (lane : Lane) where
       let h : s + 4 * hop + 3 * hop ≡ s + 7 * hop = omega arith in
       eight-same (ap from a) (ap from b) refl refl refl (ap from f) (ap from g) (ap from h)
 
-  pub eight-told : {early late : Lanes} {state : Eight} {first second : Powers} → early ≡ fourApart hop lane → late ≡ fourApart hop (laterBy (4 * hop) lane) → state ≡ eightDelays samples windows early late (lane .count) → first ≡ powersLeft early (state .early) → second ≡ powersLeft late (state .late)
+  pub eight-told : {early late : Lanes} {state : Eight} {first second : Four} → early ≡ fourApart hop lane → late ≡ fourApart hop (laterBy (4 * hop) lane) → state ≡ eightDelays samples windows early late (lane .count) → first ≡ powersLeft early (state .early) → second ≡ powersLeft late (state .late)
       → (first .a ∷ first .b ∷ first .c ∷ first .d ∷ second .a ∷ second .b ∷ second .c ∷ second .d ∷ []) ≡ eightPowers samples windows hop lane
   unfolding eightDelays
   eight-told e l s p q = rw (p, q, s, e, l) told-by-starts

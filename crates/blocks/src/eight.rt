@@ -3,14 +3,14 @@ ghost use mathlib.Core.Path.{_≡_};
 ghost use Prim.Native.Nat.{_+_, _*_, _^_, _<_, _≤_};
 ghost use lib.ListN.{length};
 ghost use Rattle.constant_q.specs.inside.Lanes.{FourLie, fewestOf};
-ghost use Rattle.blocks.specs.inside.Eight.{laterBy, fourApart, EightLie, restOfFour, eightDelays, powersLeft, eightPowers};
-use constant_q::lanes::Delays;
+ghost use Rattle.blocks.specs.inside.Eight.{laterBy, fourApart, EightLie, eightDelays, powersLeft, eightPowers};
 use constant_q::lanes::Lane;
 use constant_q::lanes::Lanes;
-use constant_q::lanes::Powers;
 use constant_q::lanes::power_per_count;
-use constant_q::lanes::step_four;
-use filters::resonator::Delay;
+use constant_q::lanes::step_lanes;
+use filters::four::Delays;
+use filters::four::Four;
+use filters::four::at_rest;
 
 // The delayed values of eight resonators: of the four earlier positions and of the four later ones.
 pub struct Eight {
@@ -42,22 +42,6 @@ fn four_apart(lane: Lane, hop: usize) -> Lanes
     Lanes { a: lane, b, c, d }
 }
 
-// Four resonators before the first value.
-fn at_rest() -> Delays
-    ensures { λ r. ⌜ r ≡ restOfFour ⌝ }
-{
-    let rest = Delay {
-        last: 0.0,
-        before: 0.0,
-    };
-    Delays {
-        a: rest,
-        b: rest,
-        c: rest,
-        d: rest,
-    }
-}
-
 // The first n values of twice four lanes, all side by side.
 fn run_eight(samples: &[f32], windows: &[f32], early: Lanes, late: Lanes, n: usize) -> Eight
     requires { ⌜ FourLie (length (now samples)) (length (now windows)) early × FourLie (length (now samples)) (length (now windows)) late × (n ≤ fewestOf early) × (n ≤ fewestOf late) ⌝ }
@@ -71,8 +55,8 @@ fn run_eight(samples: &[f32], windows: &[f32], early: Lanes, late: Lanes, n: usi
     while i < n {
         let next = i + 1;
         state = Eight {
-            early: step_four(samples, windows, early, i, state.early),
-            late: step_four(samples, windows, late, i, state.late),
+            early: step_lanes(samples, windows, early, i, state.early),
+            late: step_lanes(samples, windows, late, i, state.late),
         };
         i = next;
     }
@@ -80,7 +64,7 @@ fn run_eight(samples: &[f32], windows: &[f32], early: Lanes, late: Lanes, n: usi
 }
 
 // The powers that four resonators end with.
-fn powers_left(lanes: Lanes, delays: Delays) -> Powers
+fn powers_left(lanes: Lanes, delays: Delays) -> Four
     requires { ⌜ (lanes .a .count < 0x1_0000_0000) × (lanes .b .count < 0x1_0000_0000) × (lanes .c .count < 0x1_0000_0000) × (lanes .d .count < 0x1_0000_0000) ⌝ }
     ensures { λ r. ⌜ r ≡ powersLeft lanes delays ⌝ }
 {
@@ -88,7 +72,7 @@ fn powers_left(lanes: Lanes, delays: Delays) -> Powers
     let b = power_per_count(lanes.b, delays.b);
     let c = power_per_count(lanes.c, delays.c);
     let d = power_per_count(lanes.d, delays.d);
-    Powers { a, b, c, d }
+    Four { a, b, c, d }
 }
 
 // The powers of a row at eight positions, a hop apart.

@@ -3,7 +3,8 @@
 // The longest track in seconds.
 pub const LONGEST_TRACK: usize = 14_400;
 
-// The track's rate, then the Rust's `KeyConfig`.
+// The track's rate, then the Rust's `KeyConfig`, then which engine works out the Goertzel magnitudes: 0 all rows side by
+// side, 1 four rows at a time.
 #[repr(C)]
 pub struct Settings {
     pub rate: u32,
@@ -16,6 +17,7 @@ pub struct Settings {
     pub alternate_coverage_threshold: f32,
     pub segment_confidence_threshold: f32,
     pub minimum_segment_seconds: f32,
+    pub engine: u32,
 }
 
 // What a table sheet states about itself.

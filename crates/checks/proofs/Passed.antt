@@ -89,13 +89,13 @@ passed c hasty crowded positions e =
     let many : positions ≡ all = go-is (f .below) in
     record {
       many = many;
-      worthwhile = worth (f .failed 3);
+      worthwhile = worth (f .failed 4);
       slow = ltb-false 192_000 (c .settings .rate) (f .failed 0);
       small = ltb-false 65536 (c .settings .«frame_size») (none-of (tooLarge (c .settings)) (f .failed 1) 0);
       numbers = each-finite (not-false _ (f .failed 2));
-      short = ltb-false (longestTrack * c .settings .rate) (length (c .samples)) (f .failed 4);
-      unhurried = f .failed 5;
-      made = not-false _ (f .failed 6);
-      formed = not-false _ (f .failed 7);
-      roomy = f .failed 8;
+      short = ltb-false (longestTrack * c .settings .rate) (length (c .samples)) (f .failed 5);
+      unhurried = f .failed 6;
+      made = not-false _ (f .failed 7);
+      formed = not-false _ (f .failed 8);
+      roomy = f .failed 9;
     }

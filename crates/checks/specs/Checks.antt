@@ -1,4 +1,4 @@
--- Document 01's check table. Definitions only.
+-- The check table: document 01's rows, and number 13 of document 02. Definitions only.
 use Prim.Native.Nat.{ℕ, _*_}
 use mathlib.Core.Bool.{Bool, not}
 use mathlib.Core.List.{List, [], _∷_}
@@ -53,6 +53,7 @@ table c hasty crowded =
     (ltb 192_000 (s .rate) gives Refused 1)
     ∷ (anyOf (tooLarge s) gives Refused 2)
     ∷ (not (allFinite s) gives Refused 3)
+    ∷ (ltb 1 (s .engine) gives Refused 13)
     ∷ (nothingToDo s count gives Empty)
     ∷ (ltb (longestTrack * s .rate) count gives Refused 4)
     ∷ (hasty gives Refused 5)

@@ -86,10 +86,16 @@ pub fn check(
     if (settings.frame_size > 65_536) | (settings.hop_size > 1_048_576) {
         return Checked::Refused(2);
     }
-    if !all_finite(settings) {
+    let vague = !all_finite(settings);
+    let unknown = settings.engine > 1;
+    let idle = nothing_to_do(settings, samples.len());
+    if vague {
         return Checked::Refused(3);
     }
-    if nothing_to_do(settings, samples.len()) {
+    if unknown {
+        return Checked::Refused(13);
+    }
+    if idle {
         return Checked::Empty;
     }
     if samples.len() > LONGEST_TRACK * (settings.rate as usize) {

@@ -3,9 +3,13 @@
 ghost use mathlib.Core.Path.{_≡_};
 ghost use Prim.Native.Nat.{_<_, _≤_};
 ghost use lib.ListN.{length};
-ghost use Rattle.filters.specs.Resonator.{steppedOf, powerOf};
+ghost use Rattle.filters.specs.Resonator.{powerOf};
 ghost use Rattle.constant_q.specs.ConstantQ.{perCount};
-ghost use Rattle.constant_q.specs.inside.Lanes.{Lies, FourLie, laneValue, laneDelay, lanePower, steppedFour, fewestOf, fourDelays, fourPowers};
+ghost use Rattle.constant_q.specs.inside.Lanes.{Lies, FourLie, laneValue, laneDelay, lanePower, fourValues, fourCoefficients, steppedLanes, fewestOf, fourDelays, fourPowers};
+use filters::four::Delays;
+use filters::four::Four;
+use filters::four::at_rest;
+use filters::four::step_four;
 use filters::resonator::Delay;
 use filters::resonator::power;
 use filters::resonator::step;
@@ -28,29 +32,12 @@ pub struct Lanes {
     pub d: Lane,
 }
 
-// The delayed values of four resonators.
-pub struct Delays {
-    pub a: Delay,
-    pub b: Delay,
-    pub c: Delay,
-    pub d: Delay,
-}
-
-// The powers of four rows.
-pub struct Powers {
-    pub a: f32,
-    pub b: f32,
-    pub c: f32,
-    pub d: f32,
-}
-
-// A lane's resonator after its value i.
-fn step_lane(samples: &[f32], windows: &[f32], lane: Lane, i: usize, delay: Delay) -> Delay
+// Value i of a lane.
+fn lane_value(samples: &[f32], windows: &[f32], lane: Lane, i: usize) -> f32
     requires { ⌜ Lies (length (now samples)) (length (now windows)) lane × (i < lane .count) ⌝ }
-    ensures { λ r. ⌜ r ≡ steppedOf (lane .coefficient) (laneValue (now (samples .entry)) (now (windows .entry)) lane i) delay ⌝ }
+    ensures { λ r. ⌜ r ≡ laneValue (now (samples .entry)) (now (windows .entry)) lane i ⌝ }
 {
-    let x = samples[lane.start + i] * windows[lane.first + i];
-    step(delay, lane.coefficient, x)
+    samples[lane.start + i] * windows[lane.first + i]
 }
 
 // The rest of a lane, from a value on.
@@ -62,7 +49,8 @@ fn run_lane(samples: &[f32], windows: &[f32], lane: Lane, from: usize, delay: De
     let mut state = delay;
     let mut i = from;
     while i < count {
-        state = step_lane(samples, windows, lane, i, state);
+        let x = lane_value(samples, windows, lane, i);
+        state = step(state, lane.coefficient, x);
         i += 1;
     }
     state
@@ -98,16 +86,47 @@ pub fn lane_power(samples: &[f32], windows: &[f32], lane: Lane) -> f32
     finish_lane(samples, windows, lane, 0, rest)
 }
 
-// Four resonators after value i of each lane.
-pub fn step_four(samples: &[f32], windows: &[f32], lanes: Lanes, i: usize, delays: Delays) -> Delays
+// Value i of each of four lanes.
+fn four_values(samples: &[f32], windows: &[f32], lanes: Lanes, i: usize) -> Four
     requires { ⌜ FourLie (length (now samples)) (length (now windows)) lanes × (i < fewestOf lanes) ⌝ }
-    ensures { λ r. ⌜ r ≡ steppedFour (now (samples .entry)) (now (windows .entry)) lanes i delays ⌝ }
+    ensures { λ r. ⌜ r ≡ fourValues (now (samples .entry)) (now (windows .entry)) lanes i ⌝ }
 {
-    let a = step_lane(samples, windows, lanes.a, i, delays.a);
-    let b = step_lane(samples, windows, lanes.b, i, delays.b);
-    let c = step_lane(samples, windows, lanes.c, i, delays.c);
-    let d = step_lane(samples, windows, lanes.d, i, delays.d);
-    Delays { a, b, c, d }
+    let a = lane_value(samples, windows, lanes.a, i);
+    let b = lane_value(samples, windows, lanes.b, i);
+    let c = lane_value(samples, windows, lanes.c, i);
+    let d = lane_value(samples, windows, lanes.d, i);
+    Four { a, b, c, d }
+}
+
+// How the resonators of four lanes are tuned.
+fn four_coefficients(lanes: Lanes) -> Four
+    ensures { λ r. ⌜ r ≡ fourCoefficients lanes ⌝ }
+{
+    let a = lanes.a;
+    let b = lanes.b;
+    let c = lanes.c;
+    let d = lanes.d;
+    Four {
+        a: a.coefficient,
+        b: b.coefficient,
+        c: c.coefficient,
+        d: d.coefficient,
+    }
+}
+
+// Four resonators after value i of each lane.
+pub fn step_lanes(
+    samples: &[f32],
+    windows: &[f32],
+    lanes: Lanes,
+    i: usize,
+    delays: Delays,
+) -> Delays
+    requires { ⌜ FourLie (length (now samples)) (length (now windows)) lanes × (i < fewestOf lanes) ⌝ }
+    ensures { λ r. ⌜ r ≡ steppedLanes (now (samples .entry)) (now (windows .entry)) lanes i delays ⌝ }
+{
+    let x = four_values(samples, windows, lanes, i);
+    step_four(delays, four_coefficients(lanes), x)
 }
 
 // The first n values of four lanes, side by side.
@@ -115,19 +134,10 @@ fn run_four(samples: &[f32], windows: &[f32], lanes: Lanes, n: usize) -> Delays
     requires { ⌜ FourLie (length (now samples)) (length (now windows)) lanes × (n ≤ fewestOf lanes) ⌝ }
     ensures { λ r. ⌜ r ≡ fourDelays (now (samples .entry)) (now (windows .entry)) lanes n ⌝ }
 {
-    let rest = Delay {
-        last: 0.0,
-        before: 0.0,
-    };
-    let mut delays = Delays {
-        a: rest,
-        b: rest,
-        c: rest,
-        d: rest,
-    };
+    let mut delays = at_rest();
     let mut i = 0;
     while i < n {
-        delays = step_four(samples, windows, lanes, i, delays);
+        delays = step_lanes(samples, windows, lanes, i, delays);
         i += 1;
     }
     delays
@@ -145,7 +155,7 @@ fn fewest(lanes: Lanes) -> usize
 }
 
 // The powers of four lanes: side by side as far as all reach, then each by itself.
-pub fn four_powers(samples: &[f32], windows: &[f32], lanes: Lanes) -> Powers
+pub fn four_powers(samples: &[f32], windows: &[f32], lanes: Lanes) -> Four
     requires { ⌜ FourLie (length (now samples)) (length (now windows)) lanes ⌝ }
     ensures { λ r. ⌜ r ≡ fourPowers (now (samples .entry)) (now (windows .entry)) lanes ⌝ }
 {
@@ -155,5 +165,5 @@ pub fn four_powers(samples: &[f32], windows: &[f32], lanes: Lanes) -> Powers
     let b = finish_lane(samples, windows, lanes.b, n, delays.b);
     let c = finish_lane(samples, windows, lanes.c, n, delays.c);
     let d = finish_lane(samples, windows, lanes.d, n, delays.d);
-    Powers { a, b, c, d }
+    Four { a, b, c, d }
 }

@@ -3,15 +3,16 @@ ghost use mathlib.Core.Path.{_≡_};
 ghost use Prim.Native.Nat.{_+_, _<_, _≤_};
 ghost use lib.ListN.{length, set};
 ghost use Rattle.laws.specs.Front.{front};
+ghost use Rattle.filters.specs.Four.{putFour};
 ghost use Rattle.sheets.specs.Sheet.{joinedLength};
 ghost use Rattle.constant_q.specs.inside.Lanes.{fourPowers};
-ghost use Rattle.constant_q.specs.inside.Powers.{laneOf, powerAt, powersOf, Readable, placedAt, lanesFrom, fourFrom, putFour};
+ghost use Rattle.constant_q.specs.inside.Powers.{laneOf, powerAt, powersOf, Readable, placedAt, lanesFrom, fourFrom};
 use crate::lanes::Lane;
 use crate::lanes::Lanes;
-use crate::lanes::Powers;
 use crate::lanes::four_powers;
 use crate::lanes::lane_power;
 use crate::span::span_around;
+use filters::four::put_four;
 
 // A row, and where the window behind its own begins among the joined ones.
 pub struct Placed {
@@ -20,7 +21,7 @@ pub struct Placed {
 }
 
 // Four rows, and where the window behind the last one's begins.
-pub struct Four {
+pub struct PlacedLanes {
     pub lanes: Lanes,
     pub next: usize,
 }
@@ -67,7 +68,7 @@ fn place_four(
     end: usize,
     k: usize,
     first: usize,
-) -> Four
+) -> PlacedLanes
     requires { ⌜ Readable samples centre (now lengths) (now coefficients) end × (k + 4 ≤ length (now lengths)) × (first ≡ joinedLength (now lengths) k) ⌝ }
     ensures { λ r. ⌜ r ≡ fourFrom samples centre (now (lengths .entry)) (now (coefficients .entry)) k ⌝ }
 {
@@ -80,7 +81,7 @@ fn place_four(
     let c = r.lane;
     let d = s.lane;
     let lanes = Lanes { a, b, c, d };
-    Four {
+    PlacedLanes {
         lanes,
         next: s.next,
     }
@@ -107,17 +108,6 @@ fn write_one(
     placed.next
 }
 
-// Four powers go into their places, from k on.
-fn put_powers(powers: Powers, k: usize, room: &mut [f32])
-    requires { ⌜ k + 4 ≤ length (now room) ⌝ }
-    ensures { λ _. ⌜ now (room .exit) ≡ putFour powers k (now (room .entry)) ⌝ }
-{
-    room[k] = powers.a;
-    room[k + 1] = powers.b;
-    room[k + 2] = powers.c;
-    room[k + 3] = powers.d;
-}
-
 // The powers of four rows from k on go into their places. Returns where the next row's window begins.
 fn write_four(
     samples: &[f32],
@@ -136,7 +126,7 @@ fn write_four(
     let four = place_four(samples.len(), centre, lengths, coefficients, end, k, first);
     let lanes = four.lanes;
     let powers = four_powers(samples, windows, lanes);
-    put_powers(powers, k, room);
+    put_four(powers, k, room);
     four.next
 }
 

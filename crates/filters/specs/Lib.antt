@@ -1,2 +1,3 @@
 pub mod Resonator
+pub mod Four
 pub mod Classes

@@ -50,7 +50,7 @@ fn finished(filled: Filled) -> FramesResult
 }
 
 // Writes the loud frames of a track from the front of the lent rows: centre in seconds, chroma, energy.
-// Refusals 1 to 4 and 6 to 8 by the table; 9 a loud frame that is not finite, with its position.
+// Refusals 1 to 4, 6 to 8 and 13 by the table; 9 a loud frame that is not finite, with its position.
 pub fn frames_only(
     settings: Settings,
     head: SheetHead,

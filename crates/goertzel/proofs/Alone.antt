@@ -4,10 +4,10 @@ use mathlib.Core.List.{List}
 use Prim.Native.Nat.{ℕ}
 use lib.Ieee.{Float}
 use Rattle.calls.specs.Call.{Sheet}
-use Rattle.goertzel.specs.Goertzel.{rowMagnitude, magnitudesOf, goertzelOf}
+use Rattle.goertzel.specs.Goertzel.{goertzelOf}
 use Rattle.goertzel.specs.inside.Rows.{goertzelRows}
 
 -- a sheet's chroma is that of its rows
 pub goertzel-by-rows : (s : Sheet) (samples : List Float) (start : ℕ) → goertzelOf (goertzelRows (s .head .«minimum_midi_note») (s .window) (s .goertzelCoefficients) (s .goertzelWeights)) samples start ≡ goertzelOf s samples start
-unfolding goertzelOf magnitudesOf rowMagnitude
+unfolding goertzelOf
 goertzel-by-rows s samples start = refl

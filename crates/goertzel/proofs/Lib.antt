@@ -1,2 +1,1 @@
-mod Resonators
 pub mod Alone

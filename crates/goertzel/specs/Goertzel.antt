@@ -1,36 +1,13 @@
--- The Goertzel chroma of a frame, written from the Rust's `GoertzelTable` and `accumulate_chroma_windowed`. Definitions only.
+-- The Goertzel chroma of a frame, from the magnitudes of its rows, written from the Rust's `GoertzelTable` and `accumulate_chroma_windowed`. Definitions only.
 use Prim.Native.Nat.{ℕ, _+_, _-_, min}
 use mathlib.Core.Bool.{cond}
 use mathlib.Core.List.{List}
 use lib.Dec.{ltb}
 use lib.ListN.{length, getD}
 use lib.Ieee.{Float, nan, binary32, ofBits, add, mul}
-use Rattle.laws.specs.Front.{list}
-use Rattle.laws.specs.Pick.{maximumNumber}
-use Rattle.laws.specs.Values.{plusZero}
-use Rattle.roots.specs.Root.{rootOf}
 use Rattle.calls.specs.Call.{Sheet}
-use Rattle.filters.specs.Resonator.{windowedOf, resonated, powerOf}
 use Rattle.filters.specs.Classes.{addedByClass, weightsByClass, dividedByClass}
-use Rattle.filters.specs.declared.resonator.Delay.{Delay}
-
--- value i of the frame that starts at start
-abbrev pub frameValue : List Float → List Float → ℕ → ℕ → Float
-frameValue window samples start i = windowedOf (getD samples (start + i) nan) (getD window i nan)
-
--- the square root of the power that a resonator ends with; a power below 0 and a NaN count as 0
-unfoldable pub lastMagnitude : Float → Delay → Float
-lastMagnitude coefficient d = rootOf (maximumNumber (powerOf coefficient d) plusZero)
-
--- the magnitude of row k, from its resonator after the whole frame
-unfoldable pub rowMagnitude : Sheet → List Float → ℕ → ℕ → Float
-rowMagnitude s samples start k =
-    let coefficient = getD (s .goertzelCoefficients) k nan in
-    lastMagnitude coefficient (resonated coefficient (frameValue (s .window) samples start) (length (s .window)))
-
--- of all rows
-unfoldable pub magnitudesOf : Sheet → List Float → ℕ → List Float
-magnitudesOf s samples start = list (rowMagnitude s samples start) (length (s .goertzelCoefficients))
+use Rattle.magnitudes.specs.Magnitudes.{magnitudesOf}
 
 -- the row of the note that lies so far above row k's, and at 255 at most
 abbrev pub harmonicRow : ℕ → ℕ → ℕ → ℕ
@@ -56,4 +33,4 @@ contributionsByClass lowest magnitudes weights = addedByClass lowest (λ (k : �
 unfoldable pub goertzelOf : Sheet → List Float → ℕ → List Float
 goertzelOf s samples start =
     let lowest = s .head .«minimum_midi_note» in
-    dividedByClass (contributionsByClass lowest (magnitudesOf s samples start) (s .goertzelWeights)) (weightsByClass lowest (s .goertzelWeights))
+    dividedByClass (contributionsByClass lowest (magnitudesOf (s .window) (s .goertzelCoefficients) samples start) (s .goertzelWeights)) (weightsByClass lowest (s .goertzelWeights))

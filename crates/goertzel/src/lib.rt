@@ -1,16 +1,25 @@
 // Goertzel: the chroma of the magnitudes that the rows' notes have in one frame.
-pub mod rows;
-
 ghost use mathlib.Core.Path.{_≡_};
 ghost use Prim.Native.Nat.{_+_, _<_, _≤_};
 ghost use lib.ListN.{length};
 ghost use Rattle.goertzel.specs.Goertzel.{harmonicRow, harmonicAdded, contributionOf, contributionsByClass, goertzelOf};
-ghost use Rattle.goertzel.specs.inside.Rows.{goertzelRows};
-use crate::rows::row_at;
-use crate::rows::write_magnitudes;
+ghost use Rattle.goertzel.specs.inside.Rows.{goertzelRows, rowAt};
 use filters::classes::class_at;
 use filters::classes::divide_by_weights;
 use filters::classes::sum_weights;
+use filters::resonator::GoertzelRow;
+use magnitudes::write_magnitudes;
+
+// The sheet's row for the lowest note plus k.
+fn row_at(coefficients: &[f32], weights: &[f32], k: usize) -> GoertzelRow
+    requires { ⌜ (k < length (now coefficients)) × (k < length (now weights)) ⌝ }
+    ensures { λ r. ⌜ r ≡ rowAt (now (coefficients .entry)) (now (weights .entry)) k ⌝ }
+{
+    GoertzelRow {
+        coefficient: coefficients[k],
+        weight: weights[k],
+    }
+}
 
 // The row of the note that lies `up` notes above row k's, and at 255 at most.
 fn harmonic_row(lowest: u8, k: usize, up: usize) -> usize
@@ -66,8 +75,9 @@ fn sum_contributions(
     sums
 }
 
-// The Goertzel chroma of the frame that starts at `start`.
+// The Goertzel chroma of the frame that starts at `start`, by an engine.
 pub fn goertzel_chroma(
+    engine: u32,
     lowest: u8,
     samples: &[f32],
     start: usize,
@@ -80,7 +90,7 @@ pub fn goertzel_chroma(
 {
     let rows = coefficients.len();
     let mut room = [0.0; 256];
-    write_magnitudes(samples, start, window, coefficients, weights, &mut room);
+    write_magnitudes(engine, samples, start, window, coefficients, &mut room);
     let sums = sum_contributions(lowest, &room[..rows], coefficients, weights);
     let together = sum_weights(lowest, weights);
     divide_by_weights(&sums, &together)

@@ -45,6 +45,7 @@ pub fn is_loud(energy: f32) -> bool
 
 // The chroma of the frame that starts at `start`, whose constant-Q chroma is known.
 fn frame_chroma(
+    engine: u32,
     lowest: u8,
     samples: &[f32],
     window: &[f32],
@@ -56,7 +57,15 @@ fn frame_chroma(
     requires { ⌜ (start + length (now window) ≤ length (now samples)) × (length (now coefficients) ≡ length (now weights)) × (length (now weights) ≤ 256) ⌝ }
     ensures { λ r. ⌜ r ≡ blendOf (goertzelOf (goertzelRows lowest (now (window .entry)) (now (coefficients .entry)) (now (weights .entry))) (now (samples .entry)) start) constant ⌝ }
 {
-    let first = goertzel_chroma(lowest, samples, start, window, coefficients, weights);
+    let first = goertzel_chroma(
+        engine,
+        lowest,
+        samples,
+        start,
+        window,
+        coefficients,
+        weights,
+    );
     blend(&first, &constant)
 }
 
@@ -86,6 +95,7 @@ pub fn frame_row(
 {
     let centre = frame_centre(settings, start);
     let values = frame_chroma(
+        settings.engine,
         lowest,
         samples,
         window,

@@ -8,7 +8,7 @@ use borrow.Author.Tests.{leb-true, eqb-true, le-leb, lt-leb, not-true, not-false
 use lib.Dec.{T, leb, eqb, leb→le}
 use Rattle.laws.proofs.Cases.{same-test}
 use Rattle.laws.proofs.Table.{each-of}
-use Rattle.probe.specs.Filters.{reachesTo, rowsFit}
+use Rattle.probe.specs.Filters.{reachesTo, rowsFit, rowsHeld}
 
 module _ (start size samples : ℕ) where
   pub begins-behind : samples < start → false ≡ reachesTo start size samples
@@ -43,3 +43,13 @@ rows-fitting a rows others e =
     let alike = eqb-true rows others (fit 0) in
     let few = leb-true rows 256 (fit 1) in
     record { alike = alike; few = few; others-few = omega arith }
+
+-- rows that have places
+pub record Held (rows places : ℕ) : Type 0 where
+  pub few : rows ≤ 256
+  pub placed : rows ≤ places
+
+pub rows-holding : (a : Bool) (rows places : ℕ) → (a && rowsHeld rows places) ≡ true → Held rows places
+rows-holding a rows places e =
+    let held = each-of (leb rows 256 ∷ leb rows places ∷ []) (each-of (a ∷ rowsHeld rows places ∷ []) e 1) in
+    record { few = leb-true rows 256 (held 0); placed = leb-true rows places (held 1) }

@@ -2,12 +2,13 @@
 ghost use mathlib.Core.Path.{_≡_};
 ghost use Rattle.calls.specs.Call.{lentSheet};
 ghost use Rattle.sheets.specs.Sheet.{matchesCall, wellFormed};
-ghost use Rattle.probe.specs.Filters.{reachesTo, rowsFit, probedGoertzel, probedConstantQ};
+ghost use Rattle.probe.specs.Filters.{reachesTo, rowsFit, rowsHeld, magnitudesOutcome, probedMagnitudes, probedGoertzel, probedConstantQ};
 use crate::chroma_leaves::Twelve;
 use calls::Settings;
 use calls::SheetHead;
 use constant_q::chroma::constant_q_chroma;
 use goertzel::goertzel_chroma;
+use magnitudes::write_magnitudes;
 
 #[no_mangle]
 pub extern "C" fn probe_sheet_matches(settings: Settings, head: SheetHead) -> bool
@@ -56,9 +57,37 @@ fn rows_fit(rows: usize, others: usize) -> bool
     (rows == others) & (rows <= 256)
 }
 
+// Whether so many rows are no more than 256, and have places.
+fn rows_held(rows: usize, places: usize) -> bool
+    ensures { λ r. ⌜ r ≡ rowsHeld rows places ⌝ }
+{
+    (rows <= 256) & (rows <= places)
+}
+
+// The magnitudes of all rows, from the front of `room`. False, and nothing is written, where the lists, the frame or the
+// room do not fit.
+#[no_mangle]
+pub extern "C" fn probe_magnitudes(
+    engine: u32,
+    samples: &[f32],
+    start: usize,
+    window: &[f32],
+    coefficients: &[f32],
+    room: &mut [f32],
+) -> bool
+    ensures { λ r. ⌜ magnitudesOutcome r (now (room .exit)) ≡ probedMagnitudes (now (window .entry)) (now (coefficients .entry)) (now (samples .entry)) start (now (room .entry)) ⌝ }
+{
+    if !(reaches(start, window.len(), samples.len()) & rows_held(coefficients.len(), room.len())) {
+        return false;
+    }
+    write_magnitudes(engine, samples, start, window, coefficients, room);
+    true
+}
+
 // The Goertzel chroma of a frame, and zeros where the lists or the frame do not fit.
 #[no_mangle]
 pub extern "C" fn probe_goertzel(
+    engine: u32,
     lowest: u8,
     samples: &[f32],
     start: usize,
@@ -72,7 +101,15 @@ pub extern "C" fn probe_goertzel(
         & rows_fit(coefficients.len(), weights.len())) {
         return Twelve { values: [0.0; 12] };
     }
-    let values = goertzel_chroma(lowest, samples, start, window, coefficients, weights);
+    let values = goertzel_chroma(
+        engine,
+        lowest,
+        samples,
+        start,
+        window,
+        coefficients,
+        weights,
+    );
     Twelve { values }
 }
 

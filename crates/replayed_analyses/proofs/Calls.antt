@@ -15,7 +15,7 @@ use Rattle.stored_analyses.specs.Outcome.{sameOutcome}
 use Rattle.replayed_analyses.specs.Analyses.{blank, agrees, recordsIn}
 
 -- each record that is counted ends before the file does
-pub record-there : (bytes : List ℕ) {count : ℕ} (n : ℕ) → count ≡ recordsIn bytes → n < count → 3648 + n * 2400 + 2400 ≤ length bytes
+pub record-there : (bytes : List ℕ) {count : ℕ} (n : ℕ) → count ≡ recordsIn bytes → n < count → 3648 + n * 2404 + 2404 ≤ length bytes
 unfolding recordsIn
 record-there bytes n e h = omega arith
 
@@ -23,7 +23,7 @@ record-there bytes n e h = omega arith
 pub call-judged : (bytes : List ℕ) (start : ℕ) {settings : Settings} {head : SheetHead} {samples window coefficients weights qcoefficients qwindows : List Float} {lengths : List ℕ}
     → settings ≡ settingsAt bytes start
     → head ≡ headAt bytes 0
-    → samples ≡ valuesAt bytes (start + 40) 384
+    → samples ≡ valuesAt bytes (start + 44) 384
     → window ≡ valuesAt bytes 16 32
     → coefficients ≡ valuesAt bytes 144 14
     → weights ≡ valuesAt bytes 200 14

@@ -31,11 +31,11 @@ agrees bytes start = sameOutcome bytes start (analysed (callAt bytes start) blan
 
 -- how many records stand behind the sheet
 unfoldable pub recordsIn : List ℕ → ℕ
-recordsIn bytes = (length bytes - 3648) / 2400
+recordsIn bytes = (length bytes - 3648) / 2404
 
 -- one record more
 abbrev pub recordTurn : List ℕ → ℕ → ℕ → ℕ
-recordTurn bytes n differ = cond (not (agrees bytes (3648 + n * 2400))) (differ + 1) differ
+recordTurn bytes n differ = cond (not (agrees bytes (3648 + n * 2404))) (differ + 1) differ
 
 -- how many of them say something else
 unfoldable pub differing : List ℕ → ℕ

@@ -29,7 +29,7 @@ fn call_agrees(
     qcoefficients: &[f32],
     qwindows: &[f32],
 ) -> bool
-    requires { ⌜ start + 2400 ≤ length (now bytes) ⌝ }
+    requires { ⌜ start + 2404 ≤ length (now bytes) ⌝ }
     ensures { λ r. ⌜ r ≡ sameOutcome (now (bytes .entry)) start (analysed (given settings head (samples .entry) (window .entry) (coefficients .entry) (weights .entry) (lengths .entry) (qcoefficients .entry) (qwindows .entry)) blank) ⌝ }
 {
     let mut centres = [0.0; 8];
@@ -88,7 +88,7 @@ fn call_agrees(
 
 // Whether the record that starts at `start` tells what an analysis answers and leaves.
 fn record_agrees(bytes: &[u8], start: usize) -> bool
-    requires { ⌜ (3648 ≤ start) × (start + 2400 ≤ length (now bytes)) ⌝ }
+    requires { ⌜ (3648 ≤ start) × (start + 2404 ≤ length (now bytes)) ⌝ }
     ensures { λ r. ⌜ r ≡ agrees (now (bytes .entry)) start ⌝ }
 {
     let settings = settings_at(bytes, start);
@@ -100,7 +100,7 @@ fn record_agrees(bytes: &[u8], start: usize) -> bool
     let mut lengths = [0; 14];
     let mut qcoefficients = [0.0; 14];
     let mut qwindows = [0.0; 820];
-    read_values(bytes, start + 40, &mut samples);
+    read_values(bytes, start + 44, &mut samples);
     read_values(bytes, 16, &mut window);
     read_values(bytes, 144, &mut coefficients);
     read_values(bytes, 200, &mut weights);
@@ -129,7 +129,7 @@ pub fn count_analyses(bytes: &[u8]) -> usize
     if bytes.len() < 3648 {
         return 0;
     }
-    (bytes.len() - 3648) / 2400
+    (bytes.len() - 3648) / 2404
 }
 
 // How many of them say something else.
@@ -140,7 +140,7 @@ pub fn count_differing_analyses(bytes: &[u8]) -> usize
     let mut differ = 0;
     let mut n = 0;
     while n < count {
-        let same = record_agrees(bytes, 3648 + n * 2400);
+        let same = record_agrees(bytes, 3648 + n * 2404);
         n += 1;
         if !same {
             differ += 1;

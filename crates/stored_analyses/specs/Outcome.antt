@@ -62,7 +62,7 @@ sameSegments bytes at r =
 -- all that a call answers and leaves, behind the record's settings and samples
 unfoldable pub sameOutcome : List ℕ → ℕ → AnalyseOutcome → Bool
 sameOutcome bytes start o =
-    sameAnswer bytes (start + 1576) (o .answer)
-    && sameFrames bytes (start + 1668) (o .lent .frames) (o .lent .work)
-    && sameEstimates bytes (start + 2180) (o .lent .estimates)
-    && sameSegments bytes (start + 2280) (o .lent .segments)
+    sameAnswer bytes (start + 1580) (o .answer)
+    && sameFrames bytes (start + 1672) (o .lent .frames) (o .lent .work)
+    && sameEstimates bytes (start + 2184) (o .lent .estimates)
+    && sameSegments bytes (start + 2284) (o .lent .segments)

@@ -31,6 +31,7 @@ settingsAt bytes at =
       «alternate_coverage_threshold» = valueAt bytes (at + 28);
       «segment_confidence_threshold» = valueAt bytes (at + 32);
       «minimum_segment_seconds» = valueAt bytes (at + 36);
+      engine = wordAt bytes (at + 40);
     }
 
 -- a sheet's head, in the order of its fields
@@ -50,4 +51,4 @@ sheetIn bytes =
 
 -- what the record that starts at a byte asks
 abbrev pub callAt : List ℕ → ℕ → Call
-callAt bytes start = record { settings = settingsAt bytes start; samples = valuesAt bytes (start + 40) 384; sheet = sheetIn bytes }
+callAt bytes start = record { settings = settingsAt bytes start; samples = valuesAt bytes (start + 44) 384; sheet = sheetIn bytes }

@@ -111,18 +111,18 @@ pub fn outcome_agrees(
     keys: &[u8],
     confidences: &[f32],
 ) -> bool
-    requires { ⌜ (start + 2400 ≤ length (now bytes)) × Sized (lentAll centres values energies work middles numbers certainties shapeless starts ends keys confidences) ⌝ }
+    requires { ⌜ (start + 2404 ≤ length (now bytes)) × Sized (lentAll centres values energies work middles numbers certainties shapeless starts ends keys confidences) ⌝ }
     ensures { λ r. ⌜ r ≡ sameOutcome (now (bytes .entry)) start (analyseOutcome answer (lentAll (centres .entry) (values .entry) (energies .entry) (work .entry) (middles .entry) (numbers .entry) (certainties .entry) (shapeless .entry) (starts .entry) (ends .entry) (keys .entry) (confidences .entry))) ⌝ }
 {
-    answer_agrees(bytes, start + 1576, answer)
-        & frames_agree(bytes, start + 1668, centres, values, energies, work)
+    answer_agrees(bytes, start + 1580, answer)
+        & frames_agree(bytes, start + 1672, centres, values, energies, work)
         & estimates_agree(
             bytes,
-            start + 2180,
+            start + 2184,
             middles,
             numbers,
             certainties,
             shapeless,
         )
-        & segments_agree(bytes, start + 2280, starts, ends, keys, confidences)
+        & segments_agree(bytes, start + 2284, starts, ends, keys, confidences)
 }

@@ -34,7 +34,7 @@ pub fn read_numbers(bytes: &[u8], at: usize, numbers: &mut [u32])
 
 // The settings that start at `at`.
 pub fn settings_at(bytes: &[u8], at: usize) -> Settings
-    requires { ⌜ at + 40 ≤ length (now bytes) ⌝ }
+    requires { ⌜ at + 44 ≤ length (now bytes) ⌝ }
     ensures { λ r. ⌜ r ≡ settingsAt (now (bytes .entry)) at ⌝ }
 {
     Settings {
@@ -48,6 +48,7 @@ pub fn settings_at(bytes: &[u8], at: usize) -> Settings
         alternate_coverage_threshold: value_at(bytes, at + 28),
         segment_confidence_threshold: value_at(bytes, at + 32),
         minimum_segment_seconds: value_at(bytes, at + 36),
+        engine: word_at(bytes, at + 40),
     }
 }
 

@@ -9,7 +9,7 @@ use frames_call::FramesResult;
 use frames_call::frames_only;
 
 // Writes the loud frames of a track from the front of the lent rows: centre in seconds, chroma, energy.
-// Refusals 1 to 4 and 6 to 8 by the table; 9 a loud frame that is not finite, with its position.
+// Refusals 1 to 4, 6 to 8 and 13 by the table; 9 a loud frame that is not finite, with its position.
 #[no_mangle]
 pub extern "C" fn ulyptesh_frames(
     settings: Settings,

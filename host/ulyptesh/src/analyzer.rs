@@ -202,6 +202,7 @@ fn found(told: &AnalyseResult, lent: &Buffers, duration: f64) -> Analysis {
 #[cfg(test)]
 mod tests {
     use super::*;
+    use crate::settings::Engine;
 
     const RATE: u32 = 8_000;
     const FRAME: usize = 4_096;
@@ -258,6 +259,41 @@ mod tests {
         let mut track = clicks(36, 0);
         track[..20 * RATE as usize].copy_from_slice(&tone(20));
         track
+    }
+
+    /// All that is told of a track, each number in as many digits as tell it from all others.
+    fn all_told_of(settings: Settings, track: &[f32]) -> String {
+        let mut analyzer = Analyzer::new(settings).expect("settings that are taken");
+        let (told, _) = told_of(&mut analyzer, track);
+        let estimates: Vec<Estimate> = analyzer.estimates().collect();
+        let frames: Vec<LoudFrame> = analyzer.frames(track).expect("the same track").collect();
+        assert!(told.key.is_some() && !estimates.is_empty() && !frames.is_empty(), "{told:?}");
+        format!("{told:?} {estimates:?} {frames:?}")
+    }
+
+    #[test]
+    fn both_engines_tell_the_same() {
+        let track = tone_and_clicks();
+        // one note to nine, and 27: batches of four, with up to three odd notes behind them
+        for highest in (69..=77).chain([95]) {
+            let told_by = |engine| {
+                let change = |settings: &mut Settings| {
+                    (settings.minimum_midi_note, settings.maximum_midi_note) = (69, highest);
+                    settings.engine = engine;
+                };
+                all_told_of(settings().with(change), &track)
+            };
+            let same = told_by(Engine::SIDE_BY_SIDE) == told_by(Engine::FOUR_AT_A_TIME);
+            assert!(same, "notes 69 to {highest}");
+        }
+    }
+
+    #[test]
+    fn a_refused_engine_changes_nothing() {
+        let mut analyzer = analyzer();
+        let told = analyzer.set(settings().with(|settings| settings.engine = Engine(2)));
+        assert_eq!(told.map_err(|why| why.number()), Err(13));
+        assert_eq!(*analyzer.settings(), settings());
     }
 
     #[test]

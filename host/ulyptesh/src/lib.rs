@@ -42,7 +42,7 @@ pub use found::{Alternate, Analysis, Segment};
 pub use keys::{Key, Mode, NoSuchKey, Tonic};
 pub use notation::{NoSuchNotation, Notation, UnknownKey};
 pub use refusal::Refusal;
-pub use settings::Settings;
+pub use settings::{Engine, Settings};
 
 /// The Rust of the README's quick start, compiled and run with the documentation's tests.
 #[cfg(doctest)]

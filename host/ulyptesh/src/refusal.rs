@@ -2,7 +2,7 @@
 use crate::calls::{
     CARD_BROKEN, CARD_UNKNOWN_LAYOUT, CARD_WRONG_LENGTH, LONGEST_CARD, SHORTEST_CARD, TOO_FEW_CARD_ROWS,
 };
-use crate::settings::Settings;
+use crate::settings::{Engine, Settings};
 use std::error::Error;
 use std::fmt;
 
@@ -64,6 +64,12 @@ pub enum Refusal {
     },
     /// 10: a window's start did not grow when the hop was added.
     WindowStandsStill,
+    /// 13: the engine is neither 0 nor 1. It is judged after 3, before settings with which nothing is analysed.
+    #[non_exhaustive]
+    UnknownEngine {
+        /// The engine.
+        engine: Engine,
+    },
     /// 20: a card of fewer than 7 bytes or, where the layout is known, not of as many as its segment count gives.
     #[non_exhaustive]
     CardWrongLength {
@@ -127,7 +133,7 @@ impl Refusal {
     /// What the library's number means for this call; the position is a frame's. 0 stands for settings with which
     /// nothing is analysed.
     pub fn new(number: u32, position: u64, settings: &Settings, samples: usize) -> Self {
-        let Settings { rate, frame_size, hop_size, local_hop_seconds: seconds, .. } = *settings;
+        let Settings { rate, frame_size, hop_size, local_hop_seconds: seconds, engine, .. } = *settings;
         match number {
             0 => Self::NothingAnalysed { why: nothing_because(settings) },
             1 => Self::RateTooHigh { rate },
@@ -140,6 +146,7 @@ impl Refusal {
             8 => Self::TooLittleRoom,
             9 => Self::FrameNotFinite { position },
             10 => Self::WindowStandsStill,
+            13 => Self::UnknownEngine { engine },
             _ => Self::Unknown { number },
         }
     }
@@ -171,6 +178,7 @@ impl Refusal {
             Self::TooLittleRoom => 8,
             Self::FrameNotFinite { .. } => 9,
             Self::WindowStandsStill => 10,
+            Self::UnknownEngine { .. } => 13,
             Self::CardWrongLength { .. } => CARD_WRONG_LENGTH,
             Self::CardUnknownLayout { .. } => CARD_UNKNOWN_LAYOUT,
             Self::CardBroken => CARD_BROKEN,
@@ -199,6 +207,9 @@ impl Refusal {
                 format!("the frame at position {position} is loud, and its energy or chroma is not finite")
             }
             Self::WindowStandsStill => "the start of a window did not grow by the hop".into(),
+            Self::UnknownEngine { engine: Engine(number) } => {
+                format!("the engine, {number}, is neither 0 nor 1")
+            }
             Self::CardWrongLength { length } => wrong_length(*length),
             Self::CardUnknownLayout { layout } => format!("the card's layout, {layout}, is not known"),
             Self::CardBroken => "the card breaks a card rule, or a bit behind its last field is set".into(),
@@ -223,13 +234,24 @@ impl Error for Refusal {}
 mod tests {
     use super::*;
 
+    /// A refusal tells its number, in its words too, and whether that is known here.
+    fn tells(refusal: Refusal, number: u32, known: bool) {
+        assert_eq!(refusal.number(), number);
+        assert!(refusal.to_string().ends_with(&format!(" (refusal {number})")), "{refusal}");
+        assert_eq!(!matches!(refusal, Refusal::Unknown { .. }), known, "{refusal}");
+    }
+
+    #[test]
+    fn refusals_of_tracks_tell_their_number() {
+        for number in (1..=10).chain([13, 14]) {
+            tells(Refusal::new(number, 0, &Settings::for_rate(8_000), 0), number, number != 14);
+        }
+    }
+
     #[test]
     fn refusals_of_cards_tell_their_number() {
         for number in [CARD_WRONG_LENGTH, CARD_UNKNOWN_LAYOUT, CARD_BROKEN, TOO_FEW_CARD_ROWS, 23] {
-            let refusal = Refusal::of_card(number, &[0x30; SHORTEST_CARD]);
-            assert_eq!(refusal.number(), number);
-            assert!(refusal.to_string().ends_with(&format!(" (refusal {number})")), "{refusal}");
-            assert_eq!(matches!(refusal, Refusal::Unknown { .. }), number == 23);
+            tells(Refusal::of_card(number, &[0x30; SHORTEST_CARD]), number, number != 23);
         }
     }
 }

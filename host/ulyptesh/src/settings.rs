@@ -9,6 +9,27 @@ const LARGEST_FRAME: usize = 65_536;
 const NOT_WELL_FORMED: u32 = 7;
 const TOO_LONG: u32 = 4;
 
+/// How the Goertzel magnitudes of a frame's notes are worked out, by number. Both engines give the same numbers, bit for
+/// bit, so every answer is the same; only the time differs. Any other number is refused.
+///
+/// ```
+/// use ulyptesh::{Engine, Settings};
+/// let settings = Settings::for_rate(44_100).with(|settings| settings.engine = Engine::FOUR_AT_A_TIME);
+/// assert!(settings.check().is_ok());
+/// let refusal = settings.with(|settings| settings.engine = Engine(2)).check().unwrap_err();
+/// assert_eq!(refusal.to_string(), "the engine, 2, is neither 0 nor 1 (refusal 13)");
+/// ```
+#[repr(transparent)]
+#[derive(Debug, Clone, Copy, PartialEq, Eq)]
+pub struct Engine(pub u32);
+
+impl Engine {
+    /// All notes side by side: the faster one.
+    pub const SIDE_BY_SIDE: Self = Self(0);
+    /// Four notes at a time, and the odd ones at the end singly, as in the Rust that was ported.
+    pub const FOUR_AT_A_TIME: Self = Self(1);
+}
+
 /// What a call is asked: the track's rate, and how it is listened to.
 ///
 /// ```
@@ -41,11 +62,14 @@ pub struct Settings {
     pub segment_confidence_threshold: f32,
     /// A shorter segment is joined to a neighbour.
     pub minimum_segment_seconds: f32,
+    /// How the Goertzel magnitudes of a frame's notes are worked out; every answer is the same.
+    pub engine: Engine,
 }
 
 impl Settings {
     /// The usual settings for tracks of this rate: frames of 4,096 samples every 2,048, notes 36 to 95, windows of
-    /// 12 s every 6 s, an alternate from 0.25 of the track on, segments from a confidence of 0.35 and 12 s on.
+    /// 12 s every 6 s, an alternate from 0.25 of the track on, segments from a confidence of 0.35 and 12 s on, and
+    /// the engine that takes all notes side by side.
     pub fn for_rate(rate: u32) -> Self {
         Self {
             rate,
@@ -58,6 +82,7 @@ impl Settings {
             alternate_coverage_threshold: 0.25,
             segment_confidence_threshold: 0.35,
             minimum_segment_seconds: 12.0,
+            engine: Engine::SIDE_BY_SIDE,
         }
     }
 
@@ -83,5 +108,102 @@ impl Settings {
             TOO_LONG => Err(Refusal::new(0, 0, self, silence.len())),
             number => Err(Refusal::new(number, 0, self, silence.len())),
         }
+    }
+}
+
+#[cfg(test)]
+mod tests {
+    use super::*;
+    use crate::calls::frames;
+
+    const KNOWN: [Engine; 2] = [Engine::SIDE_BY_SIDE, Engine::FOUR_AT_A_TIME];
+    const UNKNOWN: [Engine; 2] = [Engine(2), Engine(u32::MAX)];
+
+    type Change = fn(&mut Settings);
+
+    /// What is wrong with settings before their engine is, and its number.
+    const JUDGED_BEFORE: [(u32, Change); 4] = [
+        (1, |settings| settings.rate = 192_001),
+        (2, |settings| settings.frame_size = 65_537),
+        (2, |settings| settings.hop_size = 1_048_577),
+        (3, |settings| settings.minimum_segment_seconds = f32::NAN),
+    ];
+
+    /// With what nothing is analysed.
+    const NOTHING_ANALYSED: [Change; 7] = [
+        |settings| settings.rate = 0,
+        |settings| settings.frame_size = 31,
+        |settings| settings.frame_size = SAMPLES + 1,
+        |settings| settings.hop_size = 0,
+        |settings| settings.minimum_midi_note = settings.maximum_midi_note + 1,
+        |settings| settings.local_window_seconds = 0.0,
+        |settings| settings.local_hop_seconds = 0.0,
+    ];
+
+    /// So many silent samples are more than four hours at 1 Hz.
+    const SAMPLES: usize = 14_401;
+
+    fn usual() -> Settings {
+        Settings::for_rate(8_000)
+    }
+
+    fn by(engine: Engine, settings: Settings) -> Settings {
+        settings.with(|settings| settings.engine = engine)
+    }
+
+    /// What analyse and frames say of silence, over a sheet and without rows.
+    fn said(settings: Settings, sheet: &Sheet) -> [u32; 2] {
+        let (silence, mut lent) = ([0.0; SAMPLES], Buffers::default());
+        let analysed = analyse(settings, sheet, &silence, &mut lent);
+        [analysed.refusal, frames(settings, sheet, &silence, &mut lent.frames).refusal]
+    }
+
+    /// Both calls say so with each engine, and 13 with a number that is none.
+    fn engine_comes_first(settings: Settings, sheet: &Sheet, expected: [u32; 2]) {
+        for engine in KNOWN {
+            assert_eq!(said(by(engine, settings), sheet), expected, "{settings:?}");
+        }
+        for engine in UNKNOWN {
+            assert_eq!(said(by(engine, settings), sheet), [13, 13], "{settings:?}");
+        }
+    }
+
+    #[test]
+    fn there_are_two_engines() {
+        for engine in KNOWN {
+            assert_eq!(by(engine, usual()).check(), Ok(()));
+        }
+        for engine in UNKNOWN {
+            assert_eq!(by(engine, usual()).check(), Err(Refusal::UnknownEngine { engine }));
+        }
+    }
+
+    #[test]
+    fn engines_are_judged_after_3() {
+        for (number, change) in JUDGED_BEFORE {
+            let settings = usual().with(change);
+            for engine in [KNOWN, UNKNOWN].concat() {
+                assert_eq!(said(by(engine, settings), &Sheet::empty(&settings)), [number; 2], "{settings:?}");
+            }
+        }
+    }
+
+    #[test]
+    fn engines_are_judged_before_nothing_is_analysed() {
+        for change in NOTHING_ANALYSED {
+            let settings = usual().with(change);
+            engine_comes_first(settings, &Sheet::empty(&settings), [0, 0]);
+        }
+    }
+
+    #[test]
+    fn engines_are_judged_before_4_to_8() {
+        let slow = usual().with(|settings| (settings.rate, settings.frame_size) = (1, 32));
+        let hasty = usual().with(|settings| settings.local_hop_seconds = 0.25);
+        engine_comes_first(slow, &Sheet::for_call(&slow), [4, 4]);
+        engine_comes_first(hasty, &Sheet::for_call(&hasty), [5, 8]);
+        engine_comes_first(usual(), &Sheet::empty(&slow), [6, 6]);
+        engine_comes_first(usual(), &Sheet::empty(&usual()), [7, 7]);
+        engine_comes_first(usual(), &Sheet::for_call(&usual()), [8, 8]);
     }
 }

@@ -3,13 +3,13 @@ use Prim.Native.Nat.{ℕ, _+_, _*_, _<_, _≤_}
 use mathlib.Core.List.{List}
 use lib.Ieee.{Float}
 use Rattle.laws.specs.Front.{list}
-use Rattle.filters.specs.Resonator.{atRest, powerOf}
+use Rattle.filters.specs.Resonator.{powerOf}
+use Rattle.filters.specs.declared.four.Four.{Four}
+use Rattle.filters.specs.declared.four.Delays.{Delays}
 use Rattle.constant_q.specs.ConstantQ.{perCount}
 use Rattle.constant_q.specs.inside.Lanes.{lanePower, fourDelays}
 use Rattle.constant_q.specs.declared.lanes.Lane.{Lane}
 use Rattle.constant_q.specs.declared.lanes.Lanes.{Lanes}
-use Rattle.constant_q.specs.declared.lanes.Delays.{Delays}
-use Rattle.constant_q.specs.declared.lanes.Powers.{Powers}
 use Rattle.blocks.specs.declared.eight.Eight.{Eight}
 
 -- the same row some samples later
@@ -26,16 +26,12 @@ pub record EightLie (samples windows hop : ℕ) (lane : Lane) : Type 0 where
   pub inWindows : lane .first + lane .count ≤ windows
   pub short : lane .count < 0x1_0000_0000
 
--- four resonators before the first value
-abbrev pub restOfFour : Delays
-restOfFour = record { a = atRest; b = atRest; c = atRest; d = atRest }
-
 -- each of twice four resonators alone, after n values
 unfoldable pub eightDelays : List Float → List Float → Lanes → Lanes → ℕ → Eight
 eightDelays samples windows early late n = record { early = fourDelays samples windows early n; late = fourDelays samples windows late n }
 
 -- the powers that four resonators end with
-unfoldable pub powersLeft : Lanes → Delays → Powers
+unfoldable pub powersLeft : Lanes → Delays → Four
 powersLeft lanes d =
     record {
       a = perCount (lanes .a .count) (powerOf (lanes .a .coefficient) (d .a));

@@ -41,23 +41,26 @@ past1 c answer r = past0 (start c) answer (next (le-ltb _ _ (c .if1 .left)) r)
 past2 : (c : tie.Else2) → Past (start (c .before .before .before)) 2
 past2 c answer r = past1 (c .before .before .before) answer (next (c .if2 .left) r)
 
-past3 : (c : tie.Else3) → Past (start (c .before .before .before .before .before)) 3
-past3 c answer r = past2 (c .before .before) answer (next (told-not (c .before .all-finite .ensures) (c .if3 .left)) r)
+past3 : (c : tie.Else3) → Past (start (c .before .before .before .before .before .before .before)) 3
+past3 c answer r = past2 (c .before .before .before .before) answer (next (told-not (c .before .before .before .all-finite .ensures) (c .if3 .left)) r)
 
-past4 : (c : tie.Else4) → Past (start (c .before .before .before .before .before .before .before)) 4
-past4 c answer r = past3 (c .before .before) answer (next (told (c .before .nothing-to-do .ensures) (c .if4 .left)) r)
+past4 : (c : tie.Else4) → Past (start (c .before .before .before .before .before .before .before .before)) 4
+past4 c answer r = past3 (c .before) answer (next (c .if4 .left) r)
 
 past5 : (c : tie.Else5) → Past (start (c .before .before .before .before .before .before .before .before .before)) 5
-past5 c answer r = past4 (c .before .before) answer (next (le-ltb _ _ (c .if5 .left)) r)
+past5 c answer r = past4 (c .before) answer (next (told (c .before .before .before .nothing-to-do .ensures) (c .if5 .left)) r)
 
-past6 : (c : tie.Else6) → Past (start (c .before .before .before .before .before .before .before .before .before .before)) 6
-past6 c answer r = past5 (c .before) answer (next (c .if6 .left) r)
+past6 : (c : tie.Else6) → Past (start (c .before .before .before .before .before .before .before .before .before .before .before)) 6
+past6 c answer r = past5 (c .before .before) answer (next (le-ltb _ _ (c .if6 .left)) r)
 
 past7 : (c : tie.Else7) → Past (start (c .before .before .before .before .before .before .before .before .before .before .before .before)) 7
-past7 c answer r = past6 (c .before .before) answer (next (told-not (c .before .matches .ensures) (c .if7 .left)) r)
+past7 c answer r = past6 (c .before) answer (next (c .if7 .left) r)
 
 past8 : (c : tie.Else8) → Past (start (c .before .before .before .before .before .before .before .before .before .before .before .before .before .before)) 8
-past8 c answer r = past7 (c .before .before) answer (next (told-not (c .before .well-formed .ensures) (c .if8 .left)) r)
+past8 c answer r = past7 (c .before .before) answer (next (told-not (c .before .matches .ensures) (c .if8 .left)) r)
+
+past9 : (c : tie.Else9) → Past (start (c .before .before .before .before .before .before .before .before .before .before .before .before .before .before .before .before)) 9
+past9 c answer r = past8 (c .before .before) answer (next (told-not (c .before .well-formed .ensures) (c .if9 .left)) r)
 
 returns : tie.Need-returns
 returns c = past0 (c .before .before .before .before .before .before .before .before .before) _ (here (lt-ltb _ _ (c .if1 .taken)))
@@ -68,50 +71,53 @@ returns-2 c = past1 (c .before .before .before) _ (here (c .if2 .taken))
 all-finite-requires : tie.Need-all-finite-requires
 all-finite-requires c κs = search needs
 
-returns-3 : tie.Need-returns-3
-returns-3 c = past2 (c .before .before) _ (here (told-not (c .before .all-finite .ensures) (c .if3 .taken)))
-
 nothing-to-do-requires : tie.Need-nothing-to-do-requires
 nothing-to-do-requires c κs = search needs
 
+returns-3 : tie.Need-returns-3
+returns-3 c = past2 (c .before .before .before .before) _ (here (told-not (c .before .before .before .all-finite .ensures) (c .if3 .taken)))
+
 returns-4 : tie.Need-returns-4
-returns-4 c = past3 (c .before .before) _ (here (told (c .before .nothing-to-do .ensures) (c .if4 .taken)))
-
-cast-if5 : tie.Need-cast-if5
-cast-if5 c = search needs
-
-mul-if5 : tie.Need-mul-if5
-mul-if5 c = search needs
+returns-4 c = past3 (c .before) _ (here (c .if4 .taken))
 
 returns-5 : tie.Need-returns-5
-returns-5 c = past4 (c .before .before) _ (here (lt-ltb _ _ (c .if5 .taken)))
+returns-5 c = past4 (c .before) _ (here (told (c .before .before .before .nothing-to-do .ensures) (c .if5 .taken)))
+
+cast-if6 : tie.Need-cast-if6
+cast-if6 c = search needs
+
+mul-if6 : tie.Need-mul-if6
+mul-if6 c = search needs
 
 returns-6 : tie.Need-returns-6
-returns-6 c = past5 (c .before) _ (here (c .if6 .taken))
+returns-6 c = past5 (c .before .before) _ (here (lt-ltb _ _ (c .if6 .taken)))
+
+returns-7 : tie.Need-returns-7
+returns-7 c = past6 (c .before) _ (here (c .if7 .taken))
 
 matches-requires : tie.Need-matches-requires
 matches-requires c κs = search needs
 
-returns-7 : tie.Need-returns-7
-returns-7 c = past6 (c .before .before) _ (here (told-not (c .before .matches .ensures) (c .if7 .taken)))
+returns-8 : tie.Need-returns-8
+returns-8 c = past7 (c .before .before) _ (here (told-not (c .before .matches .ensures) (c .if8 .taken)))
 
 well-formed-requires : tie.Need-well-formed-requires
 well-formed-requires c κs = search needs
 
-returns-8 : tie.Need-returns-8
-returns-8 c = past7 (c .before .before) _ (here (told-not (c .before .well-formed .ensures) (c .if8 .taken)))
+returns-9 : tie.Need-returns-9
+returns-9 c = past8 (c .before .before) _ (here (told-not (c .before .well-formed .ensures) (c .if9 .taken)))
 
 frame-positions-requires : tie.Need-frame-positions-requires
 frame-positions-requires c κs =
-    let idle = c .before .before .before .before .before .before .before in
-    let w = worth (told (idle .before .nothing-to-do .ensures) (idle .if4 .left)) in
+    let busy = c .before .before .before .before .before .before .before in
+    let w = worth (told (busy .before .before .before .nothing-to-do .ensures) (busy .if5 .left)) in
     (w .hops, w .framed, w .enough)
 
-returns-9 : tie.Need-returns-9
-returns-9 c = past8 (c .before .before) _ (here (rw (c .before .frame-positions .ensures) at (c .if9 .taken)))
-
 returns-10 : tie.Need-returns-10
-returns-10 c = ap Go (c .before .frame-positions .ensures) ∙ past8 (c .before .before) _ (next (rw (c .before .frame-positions .ensures) at (c .if9 .left)) end)
+returns-10 c = past9 (c .before .before) _ (here (rw (c .before .frame-positions .ensures) at (c .if10 .taken)))
+
+returns-11 : tie.Need-returns-11
+returns-11 c = ap Go (c .before .frame-positions .ensures) ∙ past9 (c .before .before) _ (next (rw (c .before .frame-positions .ensures) at (c .if10 .left)) end)
 
 pub check-spec : {M : Type 1} → statement M
 check-spec =
@@ -120,17 +126,18 @@ check-spec =
     returns
     returns-2
     all-finite-requires
-    returns-3
     nothing-to-do-requires
+    returns-3
     returns-4
-    cast-if5
-    mul-if5
     returns-5
+    cast-if6
+    mul-if6
     returns-6
-    matches-requires
     returns-7
-    well-formed-requires
+    matches-requires
     returns-8
-    frame-positions-requires
+    well-formed-requires
     returns-9
-    returns-10)
+    frame-positions-requires
+    returns-10
+    returns-11)

@@ -3,13 +3,14 @@ use Prim.Native.Nat.{ℕ, _+_, _<_, _≤_, min}
 use mathlib.Core.List.{List}
 use lib.ListN.{getD}
 use lib.Ieee.{Float, nan, binary32, mul}
-use Rattle.filters.specs.Resonator.{steppedOf, resonated, powerOf}
+use Rattle.filters.specs.Resonator.{resonated, powerOf}
+use Rattle.filters.specs.Four.{steppedFour, fourAlone}
 use Rattle.filters.specs.declared.resonator.Delay.{Delay}
+use Rattle.filters.specs.declared.four.Four.{Four}
+use Rattle.filters.specs.declared.four.Delays.{Delays}
 use Rattle.constant_q.specs.ConstantQ.{perCount}
 use Rattle.constant_q.specs.declared.lanes.Lane.{Lane}
 use Rattle.constant_q.specs.declared.lanes.Lanes.{Lanes}
-use Rattle.constant_q.specs.declared.lanes.Delays.{Delays}
-use Rattle.constant_q.specs.declared.lanes.Powers.{Powers}
 
 -- value i of a lane: a sample times its window value, whatever the sample is
 abbrev pub laneValue : List Float → List Float → Lane → ℕ → Float
@@ -40,28 +41,25 @@ pub record FourLie (samples windows : ℕ) (lanes : Lanes) : Type 0 where
 abbrev pub fewestOf : Lanes → ℕ
 fewestOf lanes = min (min (lanes .a .count) (lanes .b .count)) (min (lanes .c .count) (lanes .d .count))
 
+-- value i of each
+abbrev pub fourValues : List Float → List Float → Lanes → ℕ → Four
+fourValues samples windows lanes i =
+    record { a = laneValue samples windows (lanes .a) i; b = laneValue samples windows (lanes .b) i; c = laneValue samples windows (lanes .c) i; d = laneValue samples windows (lanes .d) i }
+
+-- how their resonators are tuned
+abbrev pub fourCoefficients : Lanes → Four
+fourCoefficients lanes = record { a = lanes .a .coefficient; b = lanes .b .coefficient; c = lanes .c .coefficient; d = lanes .d .coefficient }
+
 -- four resonators after value i of each lane
-unfoldable pub steppedFour : List Float → List Float → Lanes → ℕ → Delays → Delays
-steppedFour samples windows lanes i delays =
-    record {
-      a = steppedOf (lanes .a .coefficient) (laneValue samples windows (lanes .a) i) (delays .a);
-      b = steppedOf (lanes .b .coefficient) (laneValue samples windows (lanes .b) i) (delays .b);
-      c = steppedOf (lanes .c .coefficient) (laneValue samples windows (lanes .c) i) (delays .c);
-      d = steppedOf (lanes .d .coefficient) (laneValue samples windows (lanes .d) i) (delays .d);
-    }
+abbrev pub steppedLanes : List Float → List Float → Lanes → ℕ → Delays → Delays
+steppedLanes samples windows lanes i delays = steppedFour (fourCoefficients lanes) (fourValues samples windows lanes i) delays
 
 -- each of four resonators alone, after n values
-unfoldable pub fourDelays : List Float → List Float → Lanes → ℕ → Delays
-fourDelays samples windows lanes n =
-    record {
-      a = laneDelay samples windows (lanes .a) n;
-      b = laneDelay samples windows (lanes .b) n;
-      c = laneDelay samples windows (lanes .c) n;
-      d = laneDelay samples windows (lanes .d) n;
-    }
+abbrev pub fourDelays : List Float → List Float → Lanes → ℕ → Delays
+fourDelays samples windows lanes n = fourAlone (fourCoefficients lanes) (fourValues samples windows lanes) n
 
 -- the power of each of four lanes alone
-unfoldable pub fourPowers : List Float → List Float → Lanes → Powers
+unfoldable pub fourPowers : List Float → List Float → Lanes → Four
 fourPowers samples windows lanes =
     record {
       a = lanePower samples windows (lanes .a);

@@ -3,7 +3,7 @@ use mathlib.Core.Path.{_≡_}
 use Prim.Native.Nat.{ℕ, _+_, _≤_}
 use mathlib.Core.Bool.{cond}
 use mathlib.Core.List.{List, []}
-use lib.ListN.{length, getD, set}
+use lib.ListN.{length, getD}
 use lib.Ieee.{Float, nan}
 use Rattle.laws.specs.Front.{list}
 use Rattle.laws.specs.Turns.{turns}
@@ -16,9 +16,8 @@ use Rattle.constant_q.specs.inside.Lanes.{lanePower}
 use Rattle.constant_q.specs.declared.span.Span.{Span}
 use Rattle.constant_q.specs.declared.lanes.Lane.{Lane}
 use Rattle.constant_q.specs.declared.lanes.Lanes.{Lanes}
-use Rattle.constant_q.specs.declared.lanes.Powers.{Powers}
 use Rattle.constant_q.specs.declared.powers.Placed.{Placed}
-use Rattle.constant_q.specs.declared.powers.Four.{Four}
+use Rattle.constant_q.specs.declared.powers.PlacedLanes.{PlacedLanes}
 
 -- the sheet of these rows alone: constant-Q reads nothing else of a sheet
 abbrev pub constantQRows : ℕ → List ℕ → List Float → List Float → Sheet
@@ -75,9 +74,5 @@ lanesFrom samples centre lengths coefficients k =
     }
 
 -- with where the window behind them begins
-abbrev pub fourFrom : ℕ → ℕ → List ℕ → List Float → ℕ → Four
+abbrev pub fourFrom : ℕ → ℕ → List ℕ → List Float → ℕ → PlacedLanes
 fourFrom samples centre lengths coefficients k = record { lanes = lanesFrom samples centre lengths coefficients k; next = joinedLength lengths (k + 4) }
-
--- four powers in their places, from k on
-abbrev pub putFour : Powers → ℕ → List Float → List Float
-putFour p k room = set (set (set (set room k (p .a)) (k + 1) (p .b)) (k + 2) (p .c)) (k + 3) (p .d)

@@ -5,30 +5,30 @@ use Rattle.goertzel.proofs.goertzel_chroma.Tie as tie
 use native.Mathlib.Omega.{arith}
 use Prim.Native.Nat.{ℕ}
 use mathlib.Core.Path.{_≡_, refl, sym}
-use lib.ListN.{length}
+use mathlib.Core.List.{List}
+use lib.ListN.{length, take}
 use lib.Ieee.{Float}
-use Rattle.calls.specs.Call.{Sheet}
-use Rattle.goertzel.specs.Goertzel.{rowMagnitude, magnitudesOf, goertzelOf}
-use Rattle.goertzel.specs.inside.Rows.{goertzelRows}
-use lib.ListN.{take}
+use Rattle.magnitudes.specs.Magnitudes.{rowMagnitude, magnitudesOf}
+use Rattle.goertzel.specs.Goertzel.{goertzelOf}
 use Rattle.filters.proofs.Rooms.{read-back, read-long}
 
--- the rows from note 0 on, as the magnitudes are told of them, and the magnitude of row k
-abbrev rows : tie.Start → Sheet
-rows s = let a = s .args in goertzelRows 0 (a .window .now) (a .coefficients .now) (a .weights .now)
-
+-- the magnitude of row k
 abbrev magnitude : tie.Start → ℕ → Float
-magnitude s = rowMagnitude (rows s) (s .args .samples .now) (s .args .start)
+magnitude s = let a = s .args in rowMagnitude (a .window .now) (a .coefficients .now) (a .samples .now) (a .start)
 
 -- the call's start, seen from where the room was written
 abbrev start : tie.After-write-magnitudes → tie.Start
 start c = c .before .before .before .before .before .before
 
-long : (c : tie.After-write-magnitudes) → length (take (length (start c .args .coefficients .now)) (c .write-magnitudes .last .1 .1 .1 .1 .1 .0)) ≡ length (start c .args .coefficients .now)
+-- the places of the room that the rows take
+abbrev written : tie.After-write-magnitudes → List Float
+written c = take (length (start c .args .coefficients .now)) (c .write-magnitudes .last .1 .1 .1 .1 .1 .0)
+
+long : (c : tie.After-write-magnitudes) → length (written c) ≡ length (start c .args .coefficients .now)
 unfolding magnitudesOf
 long c = read-long (magnitude (start c)) (length (start c .args .coefficients .now)) _ (c .write-magnitudes .ensures)
 
-back : (c : tie.After-write-magnitudes) → take (length (start c .args .coefficients .now)) (c .write-magnitudes .last .1 .1 .1 .1 .1 .0) ≡ magnitudesOf (rows (start c)) (start c .args .samples .now) (start c .args .start)
+back : (c : tie.After-write-magnitudes) → written c ≡ magnitudesOf (start c .args .window .now) (start c .args .coefficients .now) (start c .args .samples .now) (start c .args .start)
 unfolding magnitudesOf
 back c = read-back (magnitude (start c)) (length (start c .args .coefficients .now)) _ (c .write-magnitudes .ensures)
 
@@ -54,7 +54,7 @@ divide-by-weights-requires : tie.Need-divide-by-weights-requires
 divide-by-weights-requires c κs = search needs
 
 returns : tie.Need-returns
-unfolding goertzelOf magnitudesOf rowMagnitude
+unfolding goertzelOf
 returns c = let summed = c .before .before .before .before in rw (c .divide-by-weights .ensures, c .before .before .before .sum-weights .ensures, summed .sum-contributions .ensures, back (summed .before .before .before)) refl
 
 pub goertzel-chroma-spec : {M : Type 1} → statement M

@@ -3,6 +3,7 @@ pub extern crate key_lime;
 
 pub mod borderline;
 pub mod floored;
+pub mod magnitudes;
 pub mod shapes;
 pub mod tables;
 

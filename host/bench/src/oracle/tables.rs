@@ -13,10 +13,18 @@ pub struct Tables {
 
 impl Tables {
     pub fn new(head: SheetHead) -> Self {
-        let SheetHead { rate, minimum_midi_note, maximum_midi_note, frame_size } = head;
-        let config = KeyConfig { frame_size, minimum_midi_note, maximum_midi_note, ..KeyConfig::default() };
-        let goertzel = Goertzel::new(rate, config);
+        let SheetHead { rate, minimum_midi_note, maximum_midi_note, .. } = head;
         let constant_q = ConstantQ::new(rate, minimum_midi_note, maximum_midi_note);
+        Self::with(head, goertzel(head), constant_q)
+    }
+
+    /// Goertzel rows alone, with these coefficients.
+    pub fn of_goertzel(head: SheetHead, coefficients: &[f32]) -> Self {
+        let no_rows = ConstantQ::new(head.rate, 1, 0);
+        Self::with(head, goertzel(head).with_coefficients(coefficients), no_rows)
+    }
+
+    fn with(head: SheetHead, goertzel: Goertzel, constant_q: ConstantQ) -> Self {
         Self { sheet: filled(head, &goertzel, &constant_q), goertzel, constant_q }
     }
 
@@ -34,6 +42,12 @@ impl Tables {
     pub fn constant_q(&self, samples: &[f32], centre: usize) -> Chroma {
         self.constant_q.chroma_at(samples, centre)
     }
+}
+
+fn goertzel(head: SheetHead) -> Goertzel {
+    let SheetHead { rate, minimum_midi_note, maximum_midi_note, frame_size } = head;
+    let config = KeyConfig { frame_size, minimum_midi_note, maximum_midi_note, ..KeyConfig::default() };
+    Goertzel::new(rate, config)
 }
 
 /// The sheet; row k has to be for the lowest note plus k.

@@ -51,6 +51,8 @@ Settings of analyse and key-at, with what they are where they are not given:
   --notes LO-HI           MIDI notes that are listened to, 36-95
   --frame-size N          samples in a frame, 32 to 65536; 4096
   --hop-size N            samples from a frame's start to the next one's, up to 1048576; 2048
+  --engine N              how a frame's notes are worked out: 0 all side by side, 1 four at a time; 0.
+                          The answers are the same, and 1 takes longer
 ";
 
 pub const KEY_AT: &str = "\

@@ -6,7 +6,7 @@ use std::str::FromStr;
 use ulyptesh::Settings;
 
 /// The options that all commands know that analyse.
-pub const OPTIONS: [Known; 9] = [
+pub const OPTIONS: [Known; 10] = [
     with_word("--rate"),
     with_word("--window"),
     with_word("--local-hop"),
@@ -16,6 +16,7 @@ pub const OPTIONS: [Known; 9] = [
     with_word("--notes"),
     with_word("--frame-size"),
     with_word("--hop-size"),
+    with_word("--engine"),
 ];
 
 /// Two MIDI notes with a dash between them.
@@ -67,8 +68,46 @@ pub fn read(words: &Words) -> Result<Settings, Failure> {
     set(words, "--notes", "two MIDI notes such as 36-95", &mut notes)?;
     set(words, "--frame-size", samples, &mut asked.frame_size)?;
     set(words, "--hop-size", samples, &mut asked.hop_size)?;
+    set(words, "--engine", "the number of an engine, 0 or 1", &mut asked.engine.0)?;
     (asked.minimum_midi_note, asked.maximum_midi_note) = (notes.0, notes.1);
     (asked.alternate_coverage_threshold, asked.segment_confidence_threshold) = (coverage.0, confidence.0);
     asked.check().map_err(refused)?;
     Ok(asked)
+}
+
+#[cfg(test)]
+mod tests {
+    use super::*;
+    use ulyptesh::Engine;
+
+    /// The engine that is asked for, or the failure's message and status.
+    fn engine(asked: &[&str]) -> Result<Engine, (String, u8)> {
+        let given: Vec<_> = ["--rate", "8000"].iter().chain(asked).map(Into::into).collect();
+        let read = Words::read(&given, &OPTIONS).and_then(|words| read(&words));
+        read.map(|settings| settings.engine).map_err(|failure| (failure.message, failure.status))
+    }
+
+    #[test]
+    fn an_engine_is_asked_for_by_its_number() {
+        assert_eq!(engine(&[]), Ok(Engine::SIDE_BY_SIDE));
+        assert_eq!(engine(&["--engine", "0"]), Ok(Engine::SIDE_BY_SIDE));
+        assert_eq!(engine(&["--engine=1"]), Ok(Engine::FOUR_AT_A_TIME));
+    }
+
+    #[test]
+    fn other_numbers_are_refused() {
+        for number in ["2", "4294967295"] {
+            let message = format!("the engine, {number}, is neither 0 nor 1 (refusal 13)");
+            assert_eq!(engine(&["--engine", number]), Err((message, 1)));
+        }
+    }
+
+    #[test]
+    fn words_that_are_no_such_number_are_bad_usage() {
+        for word in ["four", "-1", "0.5", "4294967296", ""] {
+            let (message, status) = engine(&["--engine", word]).expect_err(word);
+            let told = format!("'{word}' is not the number of an engine, 0 or 1");
+            assert_eq!((message.lines().next(), status), (Some(&*told), 2));
+        }
+    }
 }

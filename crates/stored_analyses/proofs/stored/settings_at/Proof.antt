@@ -73,6 +73,12 @@ add-value-at-5 c = search needs
 value-at-requires-5 : tie.Need-value-at-requires-5
 value-at-requires-5 c κs = search needs
 
+add-word-at-5 : tie.Need-add-word-at-5
+add-word-at-5 c = search needs
+
+word-at-requires-6 : tie.Need-word-at-requires-6
+word-at-requires-6 c κs = search needs
+
 returns : tie.Need-returns
 unfolding settingsAt
 returns c = cc
@@ -104,4 +110,6 @@ settings-at-spec =
     value-at-requires-4
     add-value-at-5
     value-at-requires-5
+    add-word-at-5
+    word-at-requires-6
     returns)

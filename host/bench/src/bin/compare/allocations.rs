@@ -8,6 +8,7 @@ use crate::frame_calls::{self, BREACHES, whole};
 use crate::groups::Groups;
 use bench::inputs::chromas::plain_kinds;
 use bench::inputs::dice::Dice;
+use bench::inputs::engines::ENGINES;
 use bench::inputs::tracks::{KINDS, Maker};
 use std::alloc::{Layout, alloc, dealloc};
 use std::cell::Cell;
@@ -80,7 +81,7 @@ const ASKING: [Asking; 5] = [
     ),
 ];
 
-/// A few seconds of each kind of track.
+/// A few seconds of each kind of track, by each engine.
 fn tracks(seed: u64) -> impl Iterator<Item = Asked> {
     let settings = frame_calls::settings(8_000, (36, 95), 1_024, 700).with(|settings| {
         settings.local_window_seconds = 1.0;
@@ -88,11 +89,11 @@ fn tracks(seed: u64) -> impl Iterator<Item = Asked> {
         settings.minimum_segment_seconds = 0.0;
     });
     let sheet = Arc::new(Sheet::for_call(&settings));
-    KINDS.iter().zip(STREAM..).map(move |(kind, stream)| {
+    KINDS.iter().zip(STREAM..).flat_map(move |(kind, stream)| {
         let mut maker = Maker { dice: Dice::new(seed, stream), rate: settings.rate };
         let asked = Asked::new(kind.name, settings, &sheet, (kind.make)(&mut maker, 40_000));
         assert_eq!(asked.refusal(), None);
-        asked
+        ENGINES.map(|engine| asked.clone().by(engine))
     })
 }
 

@@ -5,8 +5,8 @@ use crate::track_length::Length;
 use crate::windows::rows_asked;
 use bench::probe::segments::Track;
 use std::sync::Arc;
-use ulyptesh::Settings;
 use ulyptesh::calls::{Sheet, frame_positions, windows};
+use ulyptesh::{Engine, Settings};
 
 /// A call for frames with the lengths of their rows, and of the rest that is lent: work numbers, four lists for
 /// estimates, four for segments.
@@ -30,6 +30,12 @@ impl Asked {
         let rows = [windows(&settings, samples.len()); 8];
         let (sheet, room) = (Arc::clone(sheet), [positions; 3]);
         Self { call: frame_calls::Asked { what, settings, sheet, samples, room }, work: positions, rows }
+    }
+
+    /// The same call by this engine.
+    pub fn by(mut self, engine: Engine) -> Self {
+        self.call.settings.engine = engine;
+        self
     }
 
     /// The track as its segments see it, before any frame is heard.

@@ -1,12 +1,15 @@
 //! What a whole analysis leaves: its answer, what every lent list holds afterwards, and the card that is made of it.
 use crate::analyses::Told;
 use crate::analysis_calls::Asked;
+use crate::both_engines::{self, by_both};
 use crate::card_rounds::{self, Round};
 use crate::groups::Compared;
+use ulyptesh::Settings;
 use ulyptesh::calls::{AnalyseResult, Buffers, EstimateRows, FrameRows, NO_KEY, SegmentRows, analyse};
 
 /// What the call answers, what it leaves in all that it was lent to write, whether all else stayed, its card, written
-/// and read, where the call is not refused, and whether no end on it lies after the audio.
+/// and read, where the call is not refused, whether no end on it lies after the audio, and what the other engine leaves
+/// where that is something else.
 #[derive(Debug)]
 pub struct Left {
     pub answer: AnalyseResult,
@@ -14,6 +17,7 @@ pub struct Left {
     stayed: bool,
     card: Option<Round>,
     pub inside: bool,
+    pub other: Option<String>,
 }
 
 /// What a card is written from.
@@ -34,10 +38,11 @@ fn told(answer: &AnalyseResult, segments: &SegmentRows) -> Told {
 }
 
 impl Left {
-    /// As is wanted: all else stayed, no end after the audio; `ours` puts what it saw in their place.
+    /// As is wanted: all else stayed, no end after the audio, the same by either engine; `ours` puts what it saw in
+    /// their place.
     fn new(answer: AnalyseResult, lent: Buffers, round: fn(&Told) -> Round) -> Self {
         let card = (answer.refusal == 0).then(|| round(&told(&answer, &lent.segments)));
-        Self { answer, lent, stayed: true, card, inside: true }
+        Self { answer, lent, stayed: true, card, inside: true, other: None }
     }
 
     /// What a call has to leave, by the oracle or the request's words.
@@ -89,6 +94,7 @@ impl Compared for Left {
             && one.segments.same(&another.segments)
             && self.card.same(&other.card)
             && self.inside == other.inside
+            && self.other == other.other
     }
 
     fn shown(&self) -> String {
@@ -98,7 +104,10 @@ impl Compared for Left {
         let stayed = if self.stayed { "" } else { ", samples or sheet changed" };
         let inside = if self.inside { "" } else { ", an end after the audio" };
         let (answer, lists, card) = (self.answer.shown(), lists.join("; "), self.card.shown());
-        format!("{answer}{stayed}; energies, work, middles, shapeless, ends: {lists}; card: {card}{inside}")
+        let other = both_engines::shown(self.other.as_ref());
+        format!(
+            "{answer}{stayed}; energies, work, middles, shapeless, ends: {lists}; card: {card}{inside}{other}"
+        )
     }
 }
 
@@ -138,9 +147,16 @@ pub fn untouched(asked: &Asked) -> Buffers {
     }
 }
 
+/// The call as it is asked, and by the other engine.
 pub fn ours(asked: &Asked) -> Left {
+    let (left, other) = by_both(asked.call.settings, |settings| left_by(asked, settings));
+    Left { other, ..left }
+}
+
+/// With these settings in place of the call's own.
+fn left_by(asked: &Asked, settings: Settings) -> Left {
     let (before, mut lent) = (asked.imprint(), untouched(asked));
-    let answer = analyse(asked.call.settings, &asked.call.sheet, &asked.call.samples, &mut lent);
+    let answer = analyse(settings, &asked.call.sheet, &asked.call.samples, &mut lent);
     let left = Left::new(answer, lent, card_rounds::ours);
     let inside = left.ends().iter().all(|&end| asked.length().reaches(end.into()));
     Left { stayed: asked.imprint() == before, inside, ..left }

@@ -1,9 +1,10 @@
 //! An analyzer that is used again, beside new ones; its frames alone, beside those of an analysis; its estimates,
-//! beside the rows of a call; and the settings that it takes, beside the request's words.
+//! beside the rows of a call; each by the other engine; and the settings that it takes, beside the request's words.
 use crate::analysis_calls::refusal_of;
 use crate::frame_calls::settings;
 use crate::groups::{Groups, compared_as_shown};
 use bench::inputs::dice::Dice;
+use bench::inputs::engines::{ENGINES, NO_ENGINES, by_other};
 use bench::inputs::tracks::{KINDS, Maker, put_unheard_click};
 use ulyptesh::calls::{Buffers, EstimateRows, Sheet, analyse};
 use ulyptesh::{Analysis, Analyzer, Estimate, LoudFrame, Refusal, Settings};
@@ -51,14 +52,16 @@ type Estimated = ((f64, u8), (f32, bool));
 
 compared_as_shown!(Result<Analysis, Refusal>, LoudFrame, Refusal);
 
-/// A track of a second or so; the settings change from turn to turn, and one in five is refused.
+/// A track of a second or so; the settings change from turn to turn, and three in ten are refused.
 fn turn(seed: u64, nth: usize) -> (Settings, Vec<f32>) {
     let mut dice = Dice::new(seed, STREAM + nth as u64);
     let mut settings = settings(dice.one_of(&RATES), (dice.one_of(&[48, 60]), 95), 1_024, 512);
+    settings.engine = ENGINES[nth % 2];
     let length = 500 + dice.below(2 * settings.rate as usize);
     match dice.below(10) {
         0 => settings.rate = 200_000,
         1 => settings.local_hop_seconds = 0.25,
+        2 => settings.engine = dice.one_of(&NO_ENGINES),
         _ => {}
     }
     let kind = &KINDS[dice.below(KINDS.len())];
@@ -70,8 +73,13 @@ fn analysed(analyzer: &mut Analyzer, settings: Settings, samples: &[f32]) -> Res
     analyzer.analyse(samples)
 }
 
+/// With the other engine where there is one.
+fn by_the_other((settings, samples): (Settings, Vec<f32>)) -> (Settings, Vec<f32>) {
+    (by_other(&settings).unwrap_or(settings), samples)
+}
+
 fn analysed_anew(seed: u64, nth: usize) -> Result<Analysis, Refusal> {
-    let (settings, samples) = turn(seed, nth);
+    let (settings, samples) = by_the_other(turn(seed, nth));
     Analyzer::new(settings)?.analyse(&samples)
 }
 
@@ -89,7 +97,7 @@ fn heard(analyzer: &mut Analyzer, settings: Settings, samples: &[f32]) -> Heard 
 
 /// What an analysis leaves.
 fn left_anew(seed: u64, nth: usize) -> Heard {
-    let (settings, samples) = turn(seed, nth);
+    let (settings, samples) = by_the_other(turn(seed, nth));
     match Analyzer::new(settings) {
         Err(why) => (vec![], Some(why)),
         Ok(mut analyzer) => {
@@ -143,7 +151,7 @@ fn estimates(seed: u64, nth: usize) -> Vec<Estimated> {
 
 /// Those that the call leaves in its rows.
 fn estimates_left(seed: u64, nth: usize) -> Vec<Estimated> {
-    let (settings, samples) = of_windows(seed, nth);
+    let (settings, samples) = by_the_other(of_windows(seed, nth));
     let mut lent = Buffers::for_track(&settings, samples.len());
     let told = analyse(settings, &Sheet::for_call(&settings), &samples, &mut lent);
     let EstimateRows { middles, numbers, certainties, shapeless } = lent.estimates;
@@ -159,6 +167,7 @@ fn of_windows(seed: u64, nth: usize) -> (Settings, Vec<f32>) {
     let settings = settings(RATES[0], (48, 95), 1_024, 512).with(|settings| {
         settings.local_window_seconds = 1.0;
         settings.local_hop_seconds = 0.5;
+        settings.engine = ENGINES[nth / 2 % 2];
     });
     let (kind, length) = (&KINDS[nth % KINDS.len()], 60_000 + dice.below(40_000));
     let mut samples = (kind.make)(&mut Maker { dice, rate: RATES[0] }, length);
@@ -189,6 +198,8 @@ fn about_limits(dice: &mut Dice) -> Settings {
         ] {
             *number = at_limit_or(dice, &FLOAT_LIMITS, *number);
         }
+        let engine = dice.one_of(&ENGINES);
+        settings.engine = at_limit_or(dice, &NO_ENGINES, engine);
     })
 }
 

@@ -150,10 +150,11 @@ fn in_runs(seed: u64) -> Vec<Asked> {
 
 /// Sheets of few rows and of many, with long and short windows; the Rust has none for notes that are too high.
 fn of_rows(seed: u64) -> Vec<Asked> {
-    let few = [0, 1, 2, 3, 4, 5, 7, 8, 9, 11, 12, 13, 16, 17, 31, 45].map(|rows: u8| {
+    let few = [0, 1, 2, 3, 4, 5, 6, 7, 8, 9, 11, 12, 13, 16, 17, 31, 45].map(|rows: u8| {
         let notes = if rows == 0 { (120, 127) } else { (60, 59 + rows) };
         let shape = Shape::new(8_000, notes, 100, 61);
-        assert_eq!(shape.sheet.constant_q_lengths.len(), rows.into());
+        let Sheet { goertzel_coefficients, constant_q_lengths, .. } = &*shape.sheet;
+        assert_eq!([goertzel_coefficients.len(), constant_q_lengths.len()], [rows.into(); 2]);
         shape
     });
     let many = [(8_000, 256, 500), (44_100, 64, 48), (192_000, 300, 1_000)];

@@ -1,9 +1,10 @@
 //! Calls for frames, what they leave, and the request's check table over them, written out once more.
+use crate::both_engines::{self, by_both};
 use crate::groups::{Compared, compared_as_shown};
 use crate::sheets::{follows_the_rules, is_made_for};
 use std::sync::Arc;
-use ulyptesh::Settings;
 use ulyptesh::calls::{FrameRows, FramesResult, Sheet, frames};
+use ulyptesh::{Engine, Settings};
 
 /// What lent rows hold before the call.
 const UNTOUCHED: f32 = -7.25;
@@ -18,11 +19,12 @@ pub struct Asked {
     pub room: [usize; 3],
 }
 
-/// What the call answers and the rows that it leaves.
+/// What the call answers and the rows that it leaves, and what the other engine leaves where that is something else.
 #[derive(Debug, PartialEq)]
 pub struct Left {
-    pub answer: FramesResult,
-    pub rows: FrameRows,
+    answer: FramesResult,
+    rows: FrameRows,
+    other: Option<String>,
 }
 
 compared_as_shown!(Settings);
@@ -39,11 +41,19 @@ impl Compared for Asked {
 
 impl Compared for Left {
     fn same(&self, other: &Self) -> bool {
-        self.answer == other.answer && self.rows.same(&other.rows)
+        self.answer == other.answer && self.rows.same(&other.rows) && self.other == other.other
     }
 
     fn shown(&self) -> String {
-        format!("{:?}, {}", self.answer, self.rows.shown())
+        let other = both_engines::shown(self.other.as_ref());
+        format!("{:?}, {}{other}", self.answer, self.rows.shown())
+    }
+}
+
+impl Left {
+    /// With either engine.
+    pub fn new(answer: FramesResult, rows: FrameRows) -> Self {
+        Self { answer, rows, other: None }
     }
 }
 
@@ -73,15 +83,19 @@ pub fn untouched(room: [usize; 3]) -> FrameRows {
     }
 }
 
+/// The call as it is asked, and by the other engine.
 pub fn ours(asked: Asked) -> Left {
-    let mut rows = untouched(asked.room);
-    let answer = frames(asked.settings, &asked.sheet, &asked.samples, &mut rows);
-    Left { answer, rows }
+    let (left, other) = by_both(asked.settings, |settings| {
+        let mut rows = untouched(asked.room);
+        let answer = frames(settings, &asked.sheet, &asked.samples, &mut rows);
+        Left::new(answer, rows)
+    });
+    Left { other, ..left }
 }
 
 /// What a call leaves that the table refuses.
 pub fn refused(asked: &Asked, refusal: u32) -> Left {
-    Left { answer: FramesResult { refusal, position: 0, count: 0 }, rows: untouched(asked.room) }
+    Left::new(FramesResult { refusal, position: 0, count: 0 }, untouched(asked.room))
 }
 
 fn numbers(settings: &Settings) -> [f32; 5] {
@@ -111,6 +125,7 @@ pub fn refusal_of(settings: &Settings, samples: usize) -> Option<u32> {
         (1, settings.rate > 192_000),
         (2, settings.frame_size > 65_536 || settings.hop_size > 1_048_576),
         (3, !numbers(settings).iter().all(|x| x.is_finite())),
+        (13, ![0, 1].contains(&settings.engine.0)),
         (0, is_empty(settings, samples)),
         (4, samples > 14_400 * settings.rate as usize),
     ];
@@ -140,7 +155,7 @@ pub struct Breach {
 }
 
 /// In the table's order.
-pub const BREACHES: [Breach; 30] = [
+pub const BREACHES: [Breach; 35] = [
     Breach { what: "rate above 192,000", breaks: |asked| asked.settings.rate = 192_001 },
     Breach { what: "frame size above 65,536", breaks: |asked| asked.settings.frame_size = 65_537 },
     Breach { what: "hop above 1,048,576", breaks: |asked| asked.settings.hop_size = 1_048_577 },
@@ -155,6 +170,11 @@ pub const BREACHES: [Breach; 30] = [
         breaks: |asked| asked.settings.segment_confidence_threshold = f32::NAN,
     },
     Breach { what: "minimum not finite", breaks: |asked| asked.settings.minimum_segment_seconds = f32::NAN },
+    Breach { what: "engine 2", breaks: |asked| asked.settings.engine = Engine(2) },
+    Breach { what: "engine 3", breaks: |asked| asked.settings.engine = Engine(3) },
+    Breach { what: "engine 256", breaks: |asked| asked.settings.engine = Engine(256) },
+    Breach { what: "engine 65,536", breaks: |asked| asked.settings.engine = Engine(65_536) },
+    Breach { what: "engine 2^32 - 1", breaks: |asked| asked.settings.engine = Engine(u32::MAX) },
     Breach { what: "rate 0", breaks: |asked| asked.settings.rate = 0 },
     Breach { what: "frame size 31", breaks: |asked| asked.settings.frame_size = 31 },
     Breach { what: "hop 0", breaks: |asked| asked.settings.hop_size = 0 },

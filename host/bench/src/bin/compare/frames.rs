@@ -1,4 +1,5 @@
-//! Frames only, beside the oracle's `frame_chroma_sequence`: every row that is written and every one that stays.
+//! Frames only, by both engines, beside the oracle's `frame_chroma_sequence`: every row that is written and every one
+//! that stays.
 use crate::filters_tracks::KINDS;
 use crate::frame_calls::{Asked, Left, ours, refused, settings, untouched, whole};
 use crate::groups::Groups;
@@ -81,7 +82,7 @@ pub fn theirs(asked: Asked) -> Left {
     let (mut rows, heard) = (untouched(asked.room), heard(&asked));
     put_frames(&heard, &mut rows);
     let (refusal, position) = heard.broken.map_or((0, 0), |position| (9, position as u64));
-    Left { answer: FramesResult { refusal, position, count: heard.frames.len() as u64 }, rows }
+    Left::new(FramesResult { refusal, position, count: heard.frames.len() as u64 }, rows)
 }
 
 /// One track in three has but one loud stretch, one in eight a sample that is not finite or too large.

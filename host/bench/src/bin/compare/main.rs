@@ -10,6 +10,7 @@ mod analysis_left;
 mod analyzers;
 #[cfg(oracle)]
 mod block_tracks;
+mod both_engines;
 mod card_breaches;
 mod card_calls;
 mod card_model;
@@ -23,6 +24,7 @@ mod chroma_edges;
 #[cfg(oracle)]
 mod chroma_leaves;
 mod edges;
+mod engines;
 #[cfg(oracle)]
 mod estimate_lists;
 #[cfg(oracle)]
@@ -41,6 +43,10 @@ mod key_names;
 #[cfg(oracle)]
 mod keys;
 mod lister;
+#[cfg(oracle)]
+mod magnitude_inputs;
+#[cfg(oracle)]
+mod magnitudes;
 mod medians;
 mod numbers;
 mod orders;
@@ -124,7 +130,7 @@ macro_rules! beside_oracle {
     };
 }
 
-const TOPICS: [Topic; 38] = [
+const TOPICS: [Topic; 40] = [
     alone!(numbers),
     alone!(orders),
     alone!(key_names),
@@ -141,6 +147,7 @@ const TOPICS: [Topic; 38] = [
     alone!(stored_cards),
     alone!(track_ends),
     alone!(sheets),
+    beside_oracle!(magnitudes),
     beside_oracle!(filters),
     alone!(refusals),
     beside_oracle!(frames),
@@ -153,6 +160,7 @@ const TOPICS: [Topic; 38] = [
     beside_oracle!(shapeless_tracks),
     beside_oracle!(short_tracks),
     beside_oracle!(whole_tracks),
+    alone!(engines),
     alone!(allocations),
     alone!(analyzers),
     alone!(tool_refusals),

@@ -1,15 +1,24 @@
-//! What the request's words refuse or answer at once: each check of its table alone and with each later one, and
-//! chromas and rooms of wrong lengths. Nothing that is lent changes.
+//! What the request's words refuse or answer at once: each check of its table alone and with each later one, numbers
+//! that are no engine's, and chromas and rooms of wrong lengths. Nothing that is lent changes.
 use crate::analysis_calls::Asked;
 use crate::analysis_left;
 use crate::chroma_calls::{MOST_PLACES, our_scores, untouched};
 use crate::frame_calls::{self, BREACHES, settings, whole};
 use crate::groups::Groups;
+use bench::inputs::random::patterns;
 use std::sync::Arc;
+use ulyptesh::Engine;
 use ulyptesh::calls::{self, KEYS, KeyResult, NO_KEY, PITCH_CLASSES, ScoresResult, Sheet, WRONG_LENGTH};
 
 /// So many numbers are lent at most; a chroma has fewer.
 const MOST_NUMBERS: usize = 14;
+
+/// The stream of the seed for the numbers of no engine, and how many any ones there are.
+const STREAM: u64 = 110_000;
+const ANY_NUMBERS: usize = 2_000;
+
+/// What the library answers where a call asks for no engine.
+const NO_ENGINE: u32 = 13;
 
 /// Something that is done to a call.
 type Breaks = Box<dyn Fn(&mut Asked)>;
@@ -34,10 +43,16 @@ pub fn of_frames() -> impl Iterator<Item = frame_calls::Asked> {
     std::iter::once(whole).chain(broken)
 }
 
-/// The same of a whole analysis, which has more checks.
-pub fn of_analyses() -> Vec<Asked> {
+/// An analysis that passes.
+fn whole_analysis() -> Asked {
     let whole = Asked { work: 7, rows: [1, 2, 1, 4, 1, 3, 1, 1], call: whole() };
     assert_eq!(whole.refusal(), None);
+    whole
+}
+
+/// The same of a whole analysis, which has more checks.
+pub fn of_analyses() -> Vec<Asked> {
+    let whole = whole_analysis();
     let of_frames =
         BREACHES.iter().map(|breach| -> Breaks { Box::new(|asked| (breach.breaks)(&mut asked.call)) });
     let hop: Breaks = Box::new(|asked| asked.call.settings.local_hop_seconds = 0.5f32.next_down());
@@ -100,6 +115,25 @@ fn compare_analyses(groups: &mut Groups, name: &str, mut calls: Vec<Asked>) {
     groups.shared_group(&name, calls.len(), nth, analysis_left::ours, refused);
 }
 
+/// Numbers that no engine has: the first ones, those about powers of two, and any.
+fn no_engines(seed: u64) -> impl Iterator<Item = u32> {
+    let about_powers = (8..32).flat_map(|power| [(1 << power) - 1, 1 << power, (1 << power) + 1]);
+    let any = patterns(seed, STREAM).take(ANY_NUMBERS).map(|pattern| pattern as u32);
+    (2..300).chain(about_powers).chain(any).chain([u32::MAX]).filter(|&number| number > 1)
+}
+
+/// Both calls, which are answered but for the engine.
+fn compare_engines(groups: &mut Groups) {
+    let whole = whole_analysis();
+    let by = |number| whole.clone().by(Engine(number));
+    let ours = |number| (frame_calls::ours(by(number).call), analysis_left::ours(&by(number)));
+    let refused = |number| {
+        let asked = by(number);
+        (frame_calls::refused(&asked.call, NO_ENGINE), analysis_left::refused(&asked, NO_ENGINE))
+    };
+    groups.group("frames and analyses, no such engine", no_engines(groups.seed), ours, refused);
+}
+
 fn compare_lengths(groups: &mut Groups) {
     let scores = |(given, lent): (usize, usize)| our_scores(&numbers()[..given], lent);
     let no_scores = |_| (ScoresResult { refusal: WRONG_LENGTH, shapeless: 0 }, untouched());
@@ -123,5 +157,6 @@ pub fn compare(groups: &mut Groups) {
     });
     compare_analyses(groups, "each check alone and with each later one", of_analyses());
     compare_analyses(groups, "each list shorter", of_rooms());
+    compare_engines(groups);
     compare_lengths(groups);
 }

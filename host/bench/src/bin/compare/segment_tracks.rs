@@ -2,6 +2,7 @@
 use crate::windows::{duration, is_brief, rows_asked};
 use bench::inputs::chromas::{Kind, plain_kinds_from};
 use bench::inputs::dice::Dice;
+use bench::inputs::engines::ENGINES;
 use bench::oracle::key_lime::expose::estimates;
 use bench::oracle::{config, frames};
 use bench::probe::segments::Track;
@@ -76,6 +77,7 @@ impl Tracks {
             settings.local_hop_seconds = hop;
             settings.segment_confidence_threshold = self.dice.one_of(&[0.35, 0.1, 0.02, 0.0]);
             settings.minimum_segment_seconds = self.dice.one_of(&MINIMA);
+            settings.engine = self.dice.one_of(&ENGINES);
         })
     }
 

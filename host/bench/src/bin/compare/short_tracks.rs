@@ -5,6 +5,7 @@ use crate::filters_tracks;
 use crate::groups::Groups;
 use crate::their_analyses::theirs;
 use bench::inputs::dice::Dice;
+use bench::inputs::engines::{ENGINES, NO_ENGINES};
 use bench::inputs::tracks::{self, Maker};
 use bench::oracle::tables::Tables;
 use std::sync::Arc;
@@ -89,6 +90,8 @@ fn settings(dice: &mut Dice, head: SheetHead, samples: usize) -> Settings {
         settings.alternate_coverage_threshold = float(dice, &COVERAGES);
         settings.segment_confidence_threshold = float(dice, &CONFIDENCES);
         settings.minimum_segment_seconds = float(dice, &MINIMA);
+        let engine = dice.one_of(&ENGINES);
+        settings.engine = odd_or(dice, &NO_ENGINES, engine);
     })
 }
 

@@ -101,7 +101,7 @@ fn rectangles(picture: &str, mark: &str) -> Vec<Range<f64>> {
     sides.collect()
 }
 
-/// Whether each of the track's moments is hatched.
+/// Whether each of the track's moments is hatched; none where the picture has no segments.
 fn hatched(folder: &Folder, samples: &[f32]) -> Vec<bool> {
     folder.put_samples("track", samples);
     let ended = folder.run(&HATCHED_WORDS.split_whitespace().collect::<Vec<_>>());
@@ -117,7 +117,7 @@ fn moments() -> impl Iterator<Item = f64> {
     (0..MOMENTS).map(|nth| (nth as f64 + 0.37) / MOMENTS as f64)
 }
 
-/// Whether each of the moments is in a window without shape.
+/// Whether each of the moments is in a window without shape; none where the track has no key.
 fn in_shapeless_windows(samples: &[f32]) -> Vec<bool> {
     let settings = Settings::for_rate(RATE).with(|settings| {
         settings.hop_size = FRAME_SIZE;
@@ -126,6 +126,9 @@ fn in_shapeless_windows(samples: &[f32]) -> Vec<bool> {
     });
     let mut analyzer = Analyzer::new(settings).expect("settings that are taken");
     let told = analyzer.analyse(samples).expect("a track that is not refused");
+    if told.key.is_none() {
+        return vec![];
+    }
     let middles = analyzer.estimates().filter(|told| told.shapeless).map(|told| told.middle);
     let windows: Vec<Range<f64>> = middles.map(|middle| middle - 1.0..middle + 1.0).collect();
     moments().map(|part| windows.iter().any(|window| window.contains(&(part * told.duration)))).collect()

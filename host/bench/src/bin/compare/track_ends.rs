@@ -39,7 +39,7 @@ const ANALYSES: usize = 3;
 const LOWEST_WITH_OWN_ROWS: u32 = 40;
 
 /// A track that was analysed: whether it has a key, its segments' ends in seconds, those that are read on its card, and
-/// whether none of these lies after the audio.
+/// whether none of these lies after the audio, by either engine.
 #[derive(Debug, Clone, PartialEq)]
 struct Analysed {
     length: Length,
@@ -173,7 +173,7 @@ fn analysed(asked: &Asked) -> Analysed {
     assert!(matches!(left.answer.refusal, 0 | 9), "refused with {}", left.answer.refusal);
     let (length, has_key) = (asked.length(), left.answer.key != NO_KEY);
     let (times, ends) = (left.times().to_vec(), left.ends().to_vec());
-    Analysed { length, has_key, times, ends, inside: left.inside }
+    Analysed { length, has_key, times, ends, inside: left.inside && left.other.is_none() }
 }
 
 /// The ends on the card of an analysis, and whether none is after the audio.

@@ -1,11 +1,11 @@
 //! Whole analyses: a sheet that serves all tracks, and a record for each.
 //!
 //! The sheet: its head, the frame window, coefficients and weights of the Goertzel rows, lengths, coefficients and
-//! joined windows of the constant-Q rows. A record: the settings, the samples, the answer's nine whole numbers (refusal,
-//! position, key, DSP key, alternate, the counts of frames, estimates and segments, and 1 where the track's chroma has
-//! no shape), its values and its chroma, then all that is left in rows that were zero: frames and work numbers,
-//! estimates (middles, keys, confidences, and 1 for each without shape), segments. A number of 64 bits has its lower
-//! half first.
+//! joined windows of the constant-Q rows. A record: the settings, of which the engine is the last, the samples, the
+//! answer's nine whole numbers (refusal, position, key, DSP key, alternate, the counts of frames, estimates and segments,
+//! and 1 where the track's chroma has no shape), its values and its chroma, then all that is left in rows that were zero:
+//! frames and work numbers, estimates (middles, keys, confidences, and 1 for each without shape), segments. A number of
+//! 64 bits has its lower half first.
 use crate::patterns::pattern;
 use crate::tracks::{Asked, FRAME_SIZE, NOTES, RATE, every_track};
 use bench::oracle::key_lime::expose::{
@@ -79,14 +79,19 @@ fn settings(asked: &Asked) -> Vec<u32> {
         c.segment_confidence_threshold,
         c.minimum_segment_seconds,
     ]));
+    settings.push(asked.engine.0);
     settings
 }
 
-/// The request's checks that some track meets: a hop below half a second, another rate, too few rows.
+/// The request's checks that some track meets: no such engine, a hop below half a second, another rate, too few rows.
 fn refusal(asked: &Asked) -> Option<u32> {
     let positions = (asked.samples.len() - FRAME_SIZE) / asked.config.hop_size + 1;
-    let checks =
-        [(5, asked.config.local_hop_seconds < 0.5), (6, asked.rate != RATE), (8, positions > FRAMES)];
+    let checks = [
+        (13, ![0, 1].contains(&asked.engine.0)),
+        (5, asked.config.local_hop_seconds < 0.5),
+        (6, asked.rate != RATE),
+        (8, positions > FRAMES),
+    ];
     checks.into_iter().find(|(_, applies)| *applies).map(|(number, _)| number)
 }
 
@@ -186,8 +191,8 @@ fn record(asked: Asked) -> Vec<u32> {
     let counts = [outcome.frames.len(), outcome.estimates.len(), outcome.segments().len()];
     let shapeless = (outcome.is_shapeless(), outcome.shapeless.iter().filter(|&&told| told).count());
     println!(
-        "1 record: {}: refusal {}, key {key}, alternate {alternate}, rows {counts:?}, shapeless {shapeless:?}",
-        asked.what, outcome.refusal
+        "1 record: {}: engine {}, refusal {}, key {key}, alternate {alternate}, rows {counts:?}, shapeless {shapeless:?}",
+        asked.what, asked.engine.0, outcome.refusal
     );
     [settings(&asked), patterns(&asked.samples), outcome.answer(), outcome.rows()].concat()
 }

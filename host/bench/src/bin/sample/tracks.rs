@@ -1,9 +1,11 @@
 //! Small tracks at 160 Hz, all of 384 samples, and what a call is asked for each.
 use crate::patterns::SEED;
 use bench::inputs::chromas::unit;
+use bench::inputs::engines::ENGINES;
 use bench::inputs::random::patterns;
 use bench::oracle::key_lime::KeyConfig;
 use std::f32::consts::TAU;
+use ulyptesh::Engine;
 
 /// The rate of the sheet.
 pub const RATE: u32 = 160;
@@ -31,6 +33,7 @@ pub struct Asked {
     pub what: &'static str,
     pub rate: u32,
     pub config: KeyConfig,
+    pub engine: Engine,
     pub samples: Vec<f32>,
 }
 
@@ -38,7 +41,7 @@ const KINDS: [Kind; 25] = [
     Kind { what: "one triad", chords: &[0], ..PLAIN },
     Kind { what: "one minor triad", chords: &[21], ..PLAIN },
     Kind { what: "two keys", chords: &[0, 6], ..PLAIN },
-    Kind { what: "two keys, one for longer", chords: &[7, 7, 7, 13, 13], ..PLAIN },
+    Kind { what: "no such engine", chords: &[7, 7, 7, 13, 13], ask: |a| a.engine = Engine(2), ..PLAIN },
     Kind {
         what: "two keys, no alternate asked",
         chords: &[2, 2, 8],
@@ -165,6 +168,7 @@ fn samples(kind: &Kind, stream: u64) -> Vec<f32> {
     noise.take(SAMPLES).enumerate().map(sample).collect()
 }
 
+/// Every other track asks for the second engine.
 fn asked(kind: &Kind, stream: u64) -> Asked {
     let config = KeyConfig {
         frame_size: FRAME_SIZE,
@@ -180,7 +184,8 @@ fn asked(kind: &Kind, stream: u64) -> Asked {
     };
     let mut samples = samples(kind, stream);
     (kind.spoil)(&mut samples);
-    let mut asked = Asked { what: kind.what, rate: RATE, config, samples };
+    let engine = ENGINES[stream as usize % 2];
+    let mut asked = Asked { what: kind.what, rate: RATE, config, engine, samples };
     (kind.ask)(&mut asked);
     asked
 }

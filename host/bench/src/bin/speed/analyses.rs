@@ -1,8 +1,10 @@
 //! Whole analyses beside the oracle's `analyze`: seconds for one call, tables and all, and milliseconds by stage.
+use crate::engines::{Pairs, settings_by};
 use crate::frames::frames_of;
-use crate::rounds::{Pair, header, median_of, seconds};
+use crate::rounds::{header, median_of, seconds};
 use crate::segments::segments_of;
 use crate::tracks::chords;
+use bench::inputs::engines::ENGINES;
 use bench::oracle::config;
 use bench::oracle::key_lime::analyze;
 use bench::probe::segments::Track;
@@ -37,9 +39,12 @@ fn print_stage<A>(name: &str, work: impl Fn() -> A) {
 }
 
 /// Each stage alone, on what the one before it leaves.
-fn print_stages(settings: Settings, track: &[f32]) {
-    println!("{:30} {:>10}", "ms for the stages, 44100 Hz", "ours");
-    print_stage("frames", || frames_of(settings, track));
+fn print_stages(rate: u32, track: &[f32]) {
+    println!("{:30} {:>10}", format!("ms for the stages, {rate} Hz"), "ours");
+    for engine in ENGINES {
+        print_stage(&format!("frames, engine {}", engine.0), || frames_of(settings_by(engine, rate), track));
+    }
+    let settings = Settings::for_rate(rate);
     let FrameRows { centres, values, energies } = frames_of(settings, track);
     let count = values.len();
     print_stage("medians", || weighted_medians(&values, &energies, &mut vec![0.0; count], count));
@@ -58,11 +63,15 @@ fn print_memory() {
 
 pub fn print_rows() {
     header("s for the analysis of a track", "oracle");
-    let tracks = RATES.map(|rate| (Settings::for_rate(rate), chords(STREAM, rate, SECONDS)));
-    for (settings, track) in &tracks {
-        Pair::of_work(|| analysis_of(*settings, track), || analyze(track, settings.rate, config(settings)))
-            .print(&format!("four minutes, {} Hz", settings.rate));
+    let tracks = RATES.map(|rate| chords(STREAM, rate, SECONDS));
+    for (rate, track) in RATES.into_iter().zip(&tracks) {
+        let config = config(&Settings::for_rate(rate));
+        Pairs::of_work(
+            |engine| analysis_of(settings_by(engine, rate), track),
+            || analyze(track, rate, config),
+        )
+        .print("4 minutes", rate);
     }
-    print_stages(tracks[0].0, &tracks[0].1);
+    print_stages(RATES[0], &tracks[0]);
     print_memory();
 }

@@ -1,4 +1,5 @@
 //! The filters beside the oracle's: nanoseconds for one note and sample.
+use crate::engines::Pairs;
 use crate::rounds::{Pair, header};
 use crate::tracks::noise;
 use bench::oracle::tables::Tables;
@@ -20,13 +21,13 @@ pub fn print_rows() {
     for rate in RATES {
         let tables = Tables::new(Settings::for_rate(rate).head());
         let sheet = &tables.sheet;
-        Pair::of_steps(
+        Pairs::of_steps(
             sheet.goertzel_coefficients.len() * sheet.window.len(),
             &FRAMES,
-            |start| goertzel(sheet, &track, start)[0],
+            |engine, start| goertzel(engine, sheet, &track, start)[0],
             |start| tables.goertzel(&track, start)[0],
         )
-        .print(&format!("Goertzel, {rate} Hz"));
+        .print("Goertzel", rate);
         Pair::of_steps(
             sheet.constant_q_windows.len(),
             &FRAMES,

@@ -1,4 +1,5 @@
 //! The frames of a whole track beside the oracle's: seconds for one call, tables and all.
+use crate::engines::{Pairs, settings_by};
 use crate::rounds::{Pair, header};
 use crate::tracks::noise;
 use bench::oracle::config;
@@ -31,11 +32,14 @@ pub fn print_rows() {
     let (settings, track) = (Settings::for_rate(RATE), noise(3, SECONDS * RATE as usize));
     let quiet: Vec<f32> = track.iter().map(|x| x * SOFTER).collect();
     header("s for the frames of a track", "oracle");
-    Pair::of_work(|| frames_of(settings, &track), || frame_chroma_sequence(&track, RATE, config(&settings)))
-        .print(&format!("four minutes, {RATE} Hz"));
+    Pairs::of_work(
+        |engine| frames_of(settings_by(engine, RATE), &track),
+        || frame_chroma_sequence(&track, RATE, config(&settings)),
+    )
+    .print("4 minutes", RATE);
     Pair::of_work(
         || assert_eq!(loud_frames_of(settings, &quiet).1, 0),
         || assert!(frame_chroma_sequence(&quiet, RATE, config(&settings)).is_none()),
     )
-    .print(&format!("four quiet minutes, {RATE} Hz"));
+    .print(&format!("4 quiet minutes, {RATE} Hz"));
 }

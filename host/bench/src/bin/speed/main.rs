@@ -3,6 +3,8 @@
 mod analyses;
 mod cards;
 #[cfg(oracle)]
+mod engines;
+#[cfg(oracle)]
 mod filters;
 #[cfg(oracle)]
 mod frames;

@@ -1,9 +1,10 @@
 //! Both sides in turn, round after round: the medians of their times and of the rounds' ratios.
+use std::array;
 use std::hint::black_box;
 use std::time::Instant;
 
 /// Rounds of a pair, and turns of a round where one call is short.
-const ROUNDS: usize = 7;
+pub const ROUNDS: usize = 7;
 const TURNS: usize = 100;
 
 /// How long each side takes, and how many times as long ours does.
@@ -31,7 +32,23 @@ impl Pair {
 
     /// The same of so many rounds.
     pub fn of_rounds(rounds: usize, ours: impl Fn() -> f64, theirs: impl Fn() -> f64) -> Self {
-        let rounds: Vec<(f64, f64)> = (0..rounds).map(|_| (ours(), theirs())).collect();
+        let [pair] = Self::of_ways(rounds, |_| ours(), theirs);
+        pair
+    }
+
+    /// A round is ours in several ways, by their number, then theirs; a pair for each way.
+    pub fn of_ways<const WAYS: usize>(
+        rounds: usize,
+        ours: impl Fn(usize) -> f64,
+        theirs: impl Fn() -> f64,
+    ) -> [Self; WAYS] {
+        let round = || (array::from_fn::<f64, WAYS, _>(&ours), theirs());
+        let rounds: Vec<_> = (0..rounds).map(|_| round()).collect();
+        array::from_fn(|way| Self::of_pairs(rounds.iter().map(|round| (round.0[way], round.1)).collect()))
+    }
+
+    /// The times of each round.
+    fn of_pairs(rounds: Vec<(f64, f64)>) -> Self {
         let median = |of: fn(&(f64, f64)) -> f64| middle(rounds.iter().map(of).collect());
         Self { ours: median(|r| r.0), theirs: median(|r| r.1), ratio: median(|r| r.0 / r.1) }
     }
@@ -49,8 +66,7 @@ impl Pair {
         ours: impl Fn(X) -> f32,
         theirs: impl Fn(X) -> f32,
     ) -> Self {
-        let one = |time: f64| time / steps as f64;
-        Self::of_times(|| one(nanoseconds(values, &ours)), || one(nanoseconds(values, &theirs)))
+        Self::of_times(|| nanoseconds(steps, values, &ours), || nanoseconds(steps, values, &theirs))
     }
 
     pub fn print(&self, name: &str) {
@@ -75,7 +91,8 @@ fn one_turn<X: Copy>(values: &[X], leaf: impl Fn(X) -> f32) -> u32 {
     values.iter().fold(0, |sum, &x| sum.wrapping_add(black_box(leaf(black_box(x))).to_bits()))
 }
 
-fn nanoseconds<X: Copy>(values: &[X], leaf: impl Fn(X) -> f32) -> f64 {
+/// For one step of a value.
+pub fn nanoseconds<X: Copy>(steps: usize, values: &[X], leaf: impl Fn(X) -> f32) -> f64 {
     let turns = || (0..TURNS).fold(0, |sum: u32, _| sum.wrapping_add(one_turn(values, &leaf)));
-    seconds(turns) * 1e9 / (TURNS * values.len()) as f64
+    seconds(turns) * 1e9 / (TURNS * values.len()) as f64 / steps as f64
 }

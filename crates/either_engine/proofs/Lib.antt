@@ -1,0 +1,2 @@
+-- That no answer depends on the engine.
+pub mod Unread

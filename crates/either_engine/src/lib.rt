@@ -1,0 +1,1 @@
+// No answer depends on the engine: statements and proofs alone. See specs/.

@@ -1,0 +1,3 @@
+mod Resonators
+mod Fours
+mod Agreement

@@ -1,0 +1,4 @@
+pub mod Magnitudes
+pub mod SideBySide
+pub mod InFours
+pub mod Engines
