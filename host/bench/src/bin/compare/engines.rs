@@ -1,5 +1,5 @@
-//! Frames and analyses by one engine beside the other: every byte of all that is lent to be written, for tracks of every
-//! kind and any number of Goertzel rows, which need not be those of the ported Rust.
+//! Frames and analyses by one engine beside the other: every byte of all that is lent to be written, for tracks of
+//! every kind and any number of Goertzel rows, which need not be those of the ported Rust.
 use crate::analysis_calls::Asked;
 use crate::analysis_left::untouched;
 use crate::frame_calls::settings;

@@ -1,5 +1,5 @@
-//! The magnitudes of rows over one frame by each engine, beside the oracle's batch form and, for the odd rows at the end,
-//! its single form; and the places behind the rows, which stay.
+//! The magnitudes of rows over one frame by each engine, beside the oracle's batch form and, for the odd rows at the
+//! end, its single form; and the places behind the rows, which stay.
 use crate::groups::Groups;
 use crate::magnitude_inputs::{Asked, KINDS};
 use bench::inputs::engines::ENGINES;
@@ -64,7 +64,7 @@ fn of_other_rows(seed: u64) -> impl Iterator<Item = Asked> {
     inputs.map(move |(rows, nth)| asked(seed, rows, nth))
 }
 
-/// A call that would pass, with the frame where none is, or with a room that is too short.
+/// The call with the frame where none is, and with a room that is too short.
 fn misplaced(whole: &Asked) -> impl Iterator<Item = Asked> {
     let (length, size, rows) = (whole.samples.len(), whole.window.len(), whole.coefficients.len());
     let starts = [length - size + 1, length + 1, usize::MAX - size, size.wrapping_neg(), usize::MAX];
@@ -73,12 +73,11 @@ fn misplaced(whole: &Asked) -> impl Iterator<Item = Asked> {
     elsewhere.into_iter().chain(rooms.map(|room| Asked { room, ..whole.clone() }))
 }
 
-/// Calls that are refused, for one reason each, or for two.
-fn refused(seed: u64) -> impl Iterator<Item = Asked> {
+/// Calls for some numbers of rows, too many among them, as they are and misplaced.
+fn about_limits(seed: u64) -> impl Iterator<Item = Asked> {
     let some = [0, 1, 3, 4, 5, 8, 9, 60, 255, 256].into_iter().chain(TOO_MANY);
     let whole = some.flat_map(move |rows| (0..KINDS).step_by(31).map(move |nth| asked(seed, rows, nth)));
-    let all = whole.flat_map(|whole| misplaced(&whole).chain([whole.clone()]).collect::<Vec<_>>());
-    all.filter(|asked| wanted(asked).is_none())
+    whole.flat_map(|whole| misplaced(&whole).chain([whole.clone()]).collect::<Vec<_>>())
 }
 
 pub fn compare(groups: &mut Groups) {
@@ -86,5 +85,5 @@ pub fn compare(groups: &mut Groups) {
     groups.group("magnitudes of 0 to 9 rows", of_rows(seed, 0..=9), ours, theirs);
     groups.group("magnitudes of 253 to 256 rows", of_rows(seed, 253..=256), ours, theirs);
     groups.group("magnitudes of 10 to 252 rows", of_other_rows(seed), ours, theirs);
-    groups.group("magnitudes, no frame, no room or too many rows", refused(seed), ours, theirs);
+    groups.group("magnitudes, no frame, no room or too many rows", about_limits(seed), ours, theirs);
 }

@@ -13,7 +13,7 @@ use ulyptesh::calls::{self, KEYS, KeyResult, NO_KEY, PITCH_CLASSES, ScoresResult
 /// So many numbers are lent at most; a chroma has fewer.
 const MOST_NUMBERS: usize = 14;
 
-/// The stream of the seed for the numbers of no engine, and how many any ones there are.
+/// The stream of the seed for any numbers of no engine, and how many are drawn.
 const STREAM: u64 = 110_000;
 const ANY_NUMBERS: usize = 2_000;
 

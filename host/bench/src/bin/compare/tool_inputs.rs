@@ -30,6 +30,9 @@ const SHAPELESS_SECONDS: usize = 20;
 const OCTAVE: (u8, u8) = (60, 71);
 const OCTAVE_WORDS: [&str; 2] = ["--notes", "60-71"];
 
+/// Words for the engine, in turn: the answers are the same.
+const ENGINE_WORDS: [&[&str]; 3] = [&[], &["--engine", "0"], &["--engine=1"]];
+
 /// Semitones of a major scale with their loudness: together they tell the key well enough for a new segment.
 const SCALE: [(u32, f64); 7] = [(0, 1.05), (2, 0.26), (4, 0.48), (5, 0.41), (7, 0.7), (9, 0.3), (11, 0.12)];
 const TONICS: [u32; 2] = [66, 63];
@@ -38,7 +41,7 @@ const TONICS: [u32; 2] = [66, 63];
 pub struct Track {
     pub nth: usize,
     pub asked: Asked,
-    pub words: &'static [&'static str],
+    pub words: Vec<&'static str>,
 }
 
 impl Compared for Track {
@@ -111,6 +114,7 @@ pub fn track(seed: u64, nth: usize, sheets: &[Arc<Sheet>]) -> Track {
     let (settings, words) = settings(nth);
     let sheet = sheets.iter().find(|sheet| sheet.head == settings.head()).expect("a sheet for each track");
     let (what, samples) = samples(Dice::new(seed, STREAM + nth as u64), nth, &settings);
+    let words = [words, ENGINE_WORDS[nth % ENGINE_WORDS.len()]].concat();
     Track { nth, asked: Asked::new(what, settings, sheet, samples), words }
 }
 

@@ -73,7 +73,7 @@ const WORDS: [Case; 38] = [
 ];
 
 /// Settings: each option with a word that it does not take, and what the library does not take.
-const SETTINGS: [Case; 24] = [
+const SETTINGS: [Case; 28] = [
     bad_usage("analyse good --rate 8000 --window wide", "'wide' is not a number of seconds"),
     bad_usage("analyse good --rate 8000 --local-hop high", "'high' is not a number of seconds"),
     bad_usage("analyse good --rate 8000 --segment-confidence 1.5", "'1.5' is not a part"),
@@ -84,6 +84,7 @@ const SETTINGS: [Case; 24] = [
     bad_usage("analyse good --rate 8000 --notes 36-256", "'36-256' is not two MIDI notes"),
     bad_usage("analyse good --rate 8000 --frame-size 4k", "'4k' is not a number of samples"),
     bad_usage("analyse good --rate 8000 --hop-size -1", "'-1' is not a number of samples"),
+    bad_usage("analyse good --rate 8000 --engine four", "'four' is not the number of an engine"),
     refused("analyse good --rate 192001 --card new", "(refusal 1)"),
     refused("analyse good --rate 8000 --frame-size 65537", "a frame has more than 65536 samples (refusal 2)"),
     refused("analyse good --rate 8000 --hop-size 1048577", "the hop is above 1048576 samples (refusal 2)"),
@@ -93,6 +94,12 @@ const SETTINGS: [Case; 24] = [
         "analyse good --rate 8000 --minimum-segment inf",
         "the minimum segment is not finite (refusal 3)",
     ),
+    refused(
+        "analyse good --rate 8000 --engine 2 --card new",
+        "the engine, 2, is neither 0 nor 1 (refusal 13)",
+    ),
+    refused("key-at good 1 --rate 8000 --engine 4294967295", "the engine, 4294967295, is neither 0 nor 1"),
+    refused("analyse good --rate 8000 --engine 2 --local-hop 0.1 --hop-size 0", "(refusal 13)"),
     refused("analyse good --rate 8000 --local-hop 0.4999", "(refusal 5)"),
     refused("analyse good --rate 1 --frame-size 14401", "a frame is longer than four hours"),
     refused("analyse good --rate 8000 --frame-size 31", "a frame has fewer than 32 samples"),

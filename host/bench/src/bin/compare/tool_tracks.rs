@@ -105,7 +105,7 @@ fn ours(track: &Track, folder: &Folder) -> Answer {
     let (file, card) = (file_of(track), format!("{}.card", track.nth));
     let (samples, rate) = (&track.asked.call.samples, track.asked.call.settings.rate.to_string());
     let mut words = vec!["analyse", &file, "--rate", &rate, "--json", "--card", &card];
-    words.extend(track.words);
+    words.extend(&track.words);
     let ended = if file == "-" {
         folder.run_on(samples, &words)
     } else {

@@ -2,10 +2,10 @@
 //!
 //! The sheet: its head, the frame window, coefficients and weights of the Goertzel rows, lengths, coefficients and
 //! joined windows of the constant-Q rows. A record: the settings, of which the engine is the last, the samples, the
-//! answer's nine whole numbers (refusal, position, key, DSP key, alternate, the counts of frames, estimates and segments,
-//! and 1 where the track's chroma has no shape), its values and its chroma, then all that is left in rows that were zero:
-//! frames and work numbers, estimates (middles, keys, confidences, and 1 for each without shape), segments. A number of
-//! 64 bits has its lower half first.
+//! answer's nine whole numbers (refusal, position, key, DSP key, alternate, the counts of frames, estimates and
+//! segments, and 1 where the track's chroma has no shape), its values and its chroma, then all that is left in rows that
+//! were zero: frames and work numbers, estimates (middles, keys, confidences, and 1 for each without shape), segments. A
+//! number of 64 bits has its lower half first.
 use crate::patterns::pattern;
 use crate::tracks::{Asked, FRAME_SIZE, NOTES, RATE, every_track};
 use bench::oracle::key_lime::expose::{
@@ -190,9 +190,10 @@ fn record(asked: Asked) -> Vec<u32> {
     let [key, _, alternate] = outcome.keys();
     let counts = [outcome.frames.len(), outcome.estimates.len(), outcome.segments().len()];
     let shapeless = (outcome.is_shapeless(), outcome.shapeless.iter().filter(|&&told| told).count());
+    let (what, engine, refusal) = (asked.what, asked.engine.0, outcome.refusal);
     println!(
-        "1 record: {}: engine {}, refusal {}, key {key}, alternate {alternate}, rows {counts:?}, shapeless {shapeless:?}",
-        asked.what, asked.engine.0, outcome.refusal
+        "1 record: {what}: engine {engine}, refusal {refusal}, key {key}, alternate {alternate}, rows {counts:?}, \
+         shapeless {shapeless:?}"
     );
     [settings(&asked), patterns(&asked.samples), outcome.answer(), outcome.rows()].concat()
 }
