@@ -5,7 +5,7 @@ use Prim.Native.Nat.{ℕ, _+_, _*_, _<_, _≤_}
 use native.Mathlib.Omega.{arith}
 use lib.Ieee.{Float}
 use Rattle.laws.specs.Front.{list}
-use Rattle.filters.specs.Four.{fourAlone}
+use Rattle.filters.specs.inside.Alone.{fourAlone}
 use Rattle.filters.specs.declared.four.Four.{Four}
 use Rattle.constant_q.specs.inside.Lanes.{FourLie, lanePower, fourDelays}
 use Rattle.constant_q.specs.declared.lanes.Lane.{Lane}

@@ -10,7 +10,7 @@ use constant_q::lanes::power_per_count;
 use constant_q::lanes::step_lanes;
 use filters::four::Delays;
 use filters::four::Four;
-use filters::four::at_rest;
+use filters::four::four_at_rest;
 
 // The delayed values of eight resonators: of the four earlier positions and of the four later ones.
 pub struct Eight {
@@ -48,8 +48,8 @@ fn run_eight(samples: &[f32], windows: &[f32], early: Lanes, late: Lanes, n: usi
     ensures { λ r. ⌜ r ≡ eightDelays (now (samples .entry)) (now (windows .entry)) early late n ⌝ }
 {
     let mut state = Eight {
-        early: at_rest(),
-        late: at_rest(),
+        early: four_at_rest(),
+        late: four_at_rest(),
     };
     let mut i = 0;
     while i < n {

@@ -3,8 +3,7 @@
 // The longest track in seconds.
 pub const LONGEST_TRACK: usize = 14_400;
 
-// The track's rate, then the Rust's `KeyConfig`, then which engine works out the Goertzel magnitudes: 0 all rows side by
-// side, 1 four rows at a time.
+// The track's rate, then the Rust's `KeyConfig`, then the engine: 0 all rows side by side, 1 four rows at a time.
 #[repr(C)]
 pub struct Settings {
     pub rate: u32,

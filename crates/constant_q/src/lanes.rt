@@ -8,9 +8,10 @@ ghost use Rattle.constant_q.specs.ConstantQ.{perCount};
 ghost use Rattle.constant_q.specs.inside.Lanes.{Lies, FourLie, laneValue, laneDelay, lanePower, fourValues, fourCoefficients, steppedLanes, fewestOf, fourDelays, fourPowers};
 use filters::four::Delays;
 use filters::four::Four;
-use filters::four::at_rest;
+use filters::four::four_at_rest;
 use filters::four::step_four;
 use filters::resonator::Delay;
+use filters::resonator::at_rest;
 use filters::resonator::power;
 use filters::resonator::step;
 use numbers::counts::fewer;
@@ -79,11 +80,7 @@ pub fn lane_power(samples: &[f32], windows: &[f32], lane: Lane) -> f32
     requires { ⌜ Lies (length (now samples)) (length (now windows)) lane ⌝ }
     ensures { λ r. ⌜ r ≡ lanePower (now (samples .entry)) (now (windows .entry)) lane ⌝ }
 {
-    let rest = Delay {
-        last: 0.0,
-        before: 0.0,
-    };
-    finish_lane(samples, windows, lane, 0, rest)
+    finish_lane(samples, windows, lane, 0, at_rest())
 }
 
 // Value i of each of four lanes.
@@ -134,7 +131,7 @@ fn run_four(samples: &[f32], windows: &[f32], lanes: Lanes, n: usize) -> Delays
     requires { ⌜ FourLie (length (now samples)) (length (now windows)) lanes × (n ≤ fewestOf lanes) ⌝ }
     ensures { λ r. ⌜ r ≡ fourDelays (now (samples .entry)) (now (windows .entry)) lanes n ⌝ }
 {
-    let mut delays = at_rest();
+    let mut delays = four_at_rest();
     let mut i = 0;
     while i < n {
         delays = step_lanes(samples, windows, lanes, i, delays);

@@ -6,7 +6,8 @@ use lib.Ieee.{Float}
 use Rattle.laws.specs.Turns.{turns}
 use Rattle.laws.proofs.Turns.{turns-last, turns-keep}
 use Rattle.filters.specs.Resonator.{steppedOf, atRest, resonated}
-use Rattle.filters.specs.Four.{restOfFour, steppedFour, fourResonated, fourAlone}
+use Rattle.filters.specs.Four.{restOfFour, steppedFour, fourResonated}
+use Rattle.filters.specs.inside.Alone.{fourAlone}
 use Rattle.filters.specs.declared.resonator.Delay.{Delay}
 use Rattle.filters.specs.declared.four.Four.{Four}
 use Rattle.filters.specs.declared.four.Delays.{Delays}

@@ -4,7 +4,7 @@ use mathlib.Core.List.{List}
 use lib.ListN.{set}
 use lib.Ieee.{Float}
 use Rattle.laws.specs.Turns.{turns}
-use Rattle.filters.specs.Resonator.{steppedOf, atRest, resonated}
+use Rattle.filters.specs.Resonator.{steppedOf, atRest}
 use Rattle.filters.specs.declared.four.Four.{Four}
 use Rattle.filters.specs.declared.four.Delays.{Delays}
 
@@ -29,16 +29,6 @@ steppedFour coefficients x delays =
 -- all four after n of their values, from the first on
 unfoldable pub fourResonated : Four → (ℕ → Four) → ℕ → Delays
 fourResonated coefficients values n = turns (λ (i : ℕ) (delays : Delays). steppedFour coefficients (values i) delays) n 0 restOfFour
-
--- each of four alone, after n of its values
-unfoldable pub fourAlone : Four → (ℕ → Four) → ℕ → Delays
-fourAlone coefficients values n =
-    record {
-      a = resonated (coefficients .a) (λ (i : ℕ). values i .a) n;
-      b = resonated (coefficients .b) (λ (i : ℕ). values i .b) n;
-      c = resonated (coefficients .c) (λ (i : ℕ). values i .c) n;
-      d = resonated (coefficients .d) (λ (i : ℕ). values i .d) n;
-    }
 
 -- four numbers in their places, from k on
 abbrev pub putFour : Four → ℕ → List Float → List Float

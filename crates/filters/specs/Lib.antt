@@ -1,3 +1,4 @@
 pub mod Resonator
 pub mod Four
 pub mod Classes
+pub mod inside

@@ -4,6 +4,7 @@ ghost use Prim.Native.Nat.{_+_, _≤_};
 ghost use lib.ListN.{length};
 ghost use Rattle.filters.specs.Four.{restOfFour, steppedFour, putFour};
 use crate::resonator::Delay;
+use crate::resonator::at_rest;
 use crate::resonator::step;
 
 // A number for each of four rows.
@@ -23,13 +24,10 @@ pub struct Delays {
 }
 
 // Before the first value.
-pub fn at_rest() -> Delays
+pub fn four_at_rest() -> Delays
     ensures { λ r. ⌜ r ≡ restOfFour ⌝ }
 {
-    let rest = Delay {
-        last: 0.0,
-        before: 0.0,
-    };
+    let rest = at_rest();
     Delays {
         a: rest,
         b: rest,

@@ -1,6 +1,6 @@
 // One resonator: a filter tuned to a note, through which values go one by one.
 ghost use mathlib.Core.Path.{_≡_};
-ghost use Rattle.filters.specs.Resonator.{windowedOf, steppedOf, powerOf};
+ghost use Rattle.filters.specs.Resonator.{windowedOf, steppedOf, atRest, powerOf};
 use numbers::single::is_finite;
 
 // The two values that a resonator remembers.
@@ -23,6 +23,16 @@ pub fn windowed(sample: f32, value: f32) -> f32
         sample * value
     } else {
         0.0
+    }
+}
+
+// Before the first value.
+pub fn at_rest() -> Delay
+    ensures { λ r. ⌜ r ≡ atRest ⌝ }
+{
+    Delay {
+        last: 0.0,
+        before: 0.0,
     }
 }
 

@@ -1,3 +1,3 @@
 mod Resonators
-mod Fours
+mod Batches
 mod Agreement

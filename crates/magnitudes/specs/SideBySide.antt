@@ -2,7 +2,6 @@
 use Prim.Native.Nat.{ℕ}
 use mathlib.Core.List.{List}
 use lib.ListN.{length, getD, replicate}
-use denote.Ref.{RefT, now}
 use lib.Ieee.{Float, nan}
 use Rattle.laws.specs.Turns.{turns}
 use Rattle.laws.specs.Front.{front, list}
@@ -19,10 +18,6 @@ pub record DelayLists : Type 0 where
 -- the same, from its parts
 abbrev pub delayLists : List Float → List Float → DelayLists
 delayLists last before = record { last = last; before = before }
-
--- as a contract has it: what the references refer to
-abbrev pub lentDelays : RefT (List Float) → RefT (List Float) → DelayLists
-lentDelays last before = delayLists (now last) (now before)
 
 -- what row k's resonator remembers
 abbrev pub delayAt : DelayLists → ℕ → Delay

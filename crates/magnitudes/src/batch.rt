@@ -10,10 +10,11 @@ use crate::row::last_magnitude;
 use crate::row::last_power;
 use filters::four::Delays;
 use filters::four::Four;
-use filters::four::at_rest;
+use filters::four::four_at_rest;
 use filters::four::put_four;
 use filters::four::step_four;
 use filters::resonator::Delay;
+use filters::resonator::at_rest;
 use filters::resonator::step;
 use filters::resonator::windowed;
 use roots::square_root;
@@ -31,11 +32,11 @@ fn coefficients_from(coefficients: &[f32], k: usize) -> Four
 }
 
 // The frame that starts at `start`, through four rows' resonators.
-fn run_four(samples: &[f32], start: usize, window: &[f32], coefficients: Four) -> Delays
+fn run_batch(samples: &[f32], start: usize, window: &[f32], coefficients: Four) -> Delays
     requires { ⌜ start + length (now window) ≤ length (now samples) ⌝ }
     ensures { λ r. ⌜ r ≡ fourResonated coefficients (λ i. sameForFour (frameValue (now (window .entry)) (now (samples .entry)) start i)) (length (now (window .entry))) ⌝ }
 {
-    let mut delays = at_rest();
+    let mut delays = four_at_rest();
     let mut i = 0;
     while i < window.len() {
         let x = windowed(samples[start + i], window[i]);
@@ -56,7 +57,7 @@ fn goertzel_power_batch_4(samples: &[f32], start: usize, window: &[f32], coeffic
     requires { ⌜ start + length (now window) ≤ length (now samples) ⌝ }
     ensures { λ r. ⌜ r ≡ batchPowers (now (window .entry)) (now (samples .entry)) start coefficients ⌝ }
 {
-    let delays = run_four(samples, start, window, coefficients);
+    let delays = run_batch(samples, start, window, coefficients);
     let a = last_power(coefficients.a, delays.a);
     let b = last_power(coefficients.b, delays.b);
     let c = last_power(coefficients.c, delays.c);
@@ -76,14 +77,11 @@ fn roots_of_four(powers: Four) -> Four
 }
 
 // The frame that starts at `start`, through one row's resonator.
-fn run_one(samples: &[f32], start: usize, window: &[f32], coefficient: f32) -> Delay
+fn run_row(samples: &[f32], start: usize, window: &[f32], coefficient: f32) -> Delay
     requires { ⌜ start + length (now window) ≤ length (now samples) ⌝ }
     ensures { λ r. ⌜ r ≡ resonated coefficient (frameValue (now (window .entry)) (now (samples .entry)) start) (length (now (window .entry))) ⌝ }
 {
-    let mut delay = Delay {
-        last: 0.0,
-        before: 0.0,
-    };
+    let mut delay = at_rest();
     let mut i = 0;
     while i < window.len() {
         let x = windowed(samples[start + i], window[i]);
@@ -130,7 +128,7 @@ fn write_singly(
     let mut k = from;
     while k < coefficients.len() {
         let coefficient = coefficients[k];
-        let delay = run_one(samples, start, window, coefficient);
+        let delay = run_row(samples, start, window, coefficient);
         room[k] = last_magnitude(coefficient, delay);
         k += 1;
     }

@@ -11,8 +11,7 @@ ghost use Rattle.magnitudes.specs.Magnitudes.{magnitudesOf};
 use crate::batch::write_in_fours;
 use crate::side_by_side::write_side_by_side;
 
-// The magnitudes of all rows, from the front of `room`. Engine 1 takes four rows at a time, any other number all side by
-// side.
+// The magnitudes of all rows, from the front of `room`: by engine 1 four rows at a time, else all side by side.
 pub fn write_magnitudes(
     engine: u32,
     samples: &[f32],

@@ -4,7 +4,7 @@ ghost use Prim.Native.Nat.{_+_, _≤_};
 ghost use lib.ListN.{length};
 ghost use Rattle.laws.specs.Front.{front};
 ghost use Rattle.magnitudes.specs.Magnitudes.{frameValue};
-ghost use Rattle.magnitudes.specs.SideBySide.{lentDelays, steppedRows, runRows, lastMagnitudes, sideBySide};
+ghost use Rattle.magnitudes.specs.SideBySide.{delayLists, steppedRows, runRows, lastMagnitudes, sideBySide};
 use crate::row::last_magnitude;
 use filters::resonator::Delay;
 use filters::resonator::step;
@@ -13,7 +13,7 @@ use filters::resonator::windowed;
 // One value more through every row's resonator.
 fn step_rows(coefficients: &[f32], x: f32, last: &mut [f32], before: &mut [f32])
     requires { ⌜ (length (now coefficients) ≤ length (now last)) × (length (now coefficients) ≤ length (now before)) ⌝ }
-    ensures { λ _. ⌜ lentDelays (last .exit) (before .exit) ≡ steppedRows (now (coefficients .entry)) x (lentDelays (last .entry) (before .entry)) ⌝ }
+    ensures { λ _. ⌜ delayLists (now (last .exit)) (now (before .exit)) ≡ steppedRows (now (coefficients .entry)) x (delayLists (now (last .entry)) (now (before .entry))) ⌝ }
 {
     let mut k = 0;
     while k < coefficients.len() {
@@ -38,7 +38,7 @@ fn run_rows(
     before: &mut [f32],
 )
     requires { ⌜ (start + length (now window) ≤ length (now samples)) × (length (now coefficients) ≤ length (now last)) × (length (now coefficients) ≤ length (now before)) ⌝ }
-    ensures { λ _. ⌜ lentDelays (last .exit) (before .exit) ≡ runRows (now (coefficients .entry)) (frameValue (now (window .entry)) (now (samples .entry)) start) (length (now (window .entry))) (lentDelays (last .entry) (before .entry)) ⌝ }
+    ensures { λ _. ⌜ delayLists (now (last .exit)) (now (before .exit)) ≡ runRows (now (coefficients .entry)) (frameValue (now (window .entry)) (now (samples .entry)) start) (length (now (window .entry))) (delayLists (now (last .entry)) (now (before .entry))) ⌝ }
 {
     let mut i = 0;
     while i < window.len() {
@@ -51,7 +51,7 @@ fn run_rows(
 // The magnitudes of all rows, from what their resonators end with.
 fn last_magnitudes(coefficients: &[f32], last: &[f32], before: &[f32], room: &mut [f32])
     requires { ⌜ (length (now coefficients) ≤ length (now last)) × (length (now coefficients) ≤ length (now before)) × (length (now coefficients) ≤ length (now room)) ⌝ }
-    ensures { λ _. ⌜ now (room .exit) ≡ front (lastMagnitudes (now (coefficients .entry)) (lentDelays (last .entry) (before .entry))) (now (room .entry)) ⌝ }
+    ensures { λ _. ⌜ now (room .exit) ≡ front (lastMagnitudes (now (coefficients .entry)) (delayLists (now (last .entry)) (now (before .entry)))) (now (room .entry)) ⌝ }
 {
     let mut k = 0;
     while k < coefficients.len() {

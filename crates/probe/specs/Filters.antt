@@ -31,6 +31,7 @@ pub record MagnitudesOutcome : Type 0 where
   pub written : Bool
   pub room : List Float
 
+-- both together
 abbrev pub magnitudesOutcome : Bool → List Float → MagnitudesOutcome
 magnitudesOutcome written room = record { written = written; room = room }
 

@@ -64,8 +64,7 @@ fn rows_held(rows: usize, places: usize) -> bool
     (rows <= 256) & (rows <= places)
 }
 
-// The magnitudes of all rows, from the front of `room`. False, and nothing is written, where the lists, the frame or the
-// room do not fit.
+// The magnitudes of all rows, from the front of `room`; false, and nothing written, where frame or room do not fit.
 #[no_mangle]
 pub extern "C" fn probe_magnitudes(
     engine: u32,

@@ -243,8 +243,8 @@ mod tests {
 
     #[test]
     fn refusals_of_tracks_tell_their_number() {
-        for number in (1..=10).chain([13, 14]) {
-            tells(Refusal::new(number, 0, &Settings::for_rate(8_000), 0), number, number != 14);
+        for number in (1..=10).chain([13, 99]) {
+            tells(Refusal::new(number, 0, &Settings::for_rate(8_000), 0), number, number != 99);
         }
     }
 

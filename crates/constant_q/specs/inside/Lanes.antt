@@ -4,7 +4,8 @@ use mathlib.Core.List.{List}
 use lib.ListN.{getD}
 use lib.Ieee.{Float, nan, binary32, mul}
 use Rattle.filters.specs.Resonator.{resonated, powerOf}
-use Rattle.filters.specs.Four.{steppedFour, fourAlone}
+use Rattle.filters.specs.Four.{steppedFour}
+use Rattle.filters.specs.inside.Alone.{fourAlone}
 use Rattle.filters.specs.declared.resonator.Delay.{Delay}
 use Rattle.filters.specs.declared.four.Four.{Four}
 use Rattle.filters.specs.declared.four.Delays.{Delays}

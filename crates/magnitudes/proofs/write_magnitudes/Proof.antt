@@ -5,7 +5,7 @@ use Rattle.magnitudes.proofs.write_magnitudes.Tie as tie
 use native.Mathlib.Omega.{arith}
 use mathlib.Core.Path.{_∙_}
 use Rattle.magnitudes.proofs.Resonators.{side-by-side-told}
-use Rattle.magnitudes.proofs.Fours.{in-fours-told}
+use Rattle.magnitudes.proofs.Batches.{in-fours-told}
 
 write-in-fours-requires : tie.Need-write-in-fours-requires
 write-in-fours-requires c κs = search needs

@@ -5,7 +5,7 @@ use Prim.Native.Nat.{_≤_, _-_}
 use mathlib.Core.Path.{_≡_, refl, ap, _∙_}
 use Rattle.laws.specs.Turns.{turns}
 use Rattle.filters.specs.Resonator.{resonated}
-use Rattle.filters.specs.Four.{fourAlone}
+use Rattle.filters.specs.inside.Alone.{fourAlone}
 use Rattle.constant_q.proofs.Resonators.{lanes-more}
 use Rattle.blocks.specs.inside.Eight.{eightDelays}
 use Rattle.blocks.proofs.eight.run_eight.Statement.{statement}
@@ -17,15 +17,15 @@ Inv-loop samples windows early late n state₀ i₀ state i = (i ≤ n) × (stat
 abbrev μ-loop : tie.MeasureT-loop
 μ-loop samples windows early late n state₀ i₀ state i = n - i
 
-at-rest-requires : tie.Need-at-rest-requires Inv-loop μ-loop
-at-rest-requires c κs = search needs
+four-at-rest-requires : tie.Need-four-at-rest-requires Inv-loop μ-loop
+four-at-rest-requires c κs = search needs
 
-at-rest-requires-2 : tie.Need-at-rest-requires-2 Inv-loop μ-loop
-at-rest-requires-2 c κs = search needs
+four-at-rest-requires-2 : tie.Need-four-at-rest-requires-2 Inv-loop μ-loop
+four-at-rest-requires-2 c κs = search needs
 
 loop-holds : tie.Need-loop-holds Inv-loop μ-loop
 unfolding eightDelays fourAlone resonated turns
-loop-holds c = (omega arith, rw (c .at-rest2 .ensures, c .before .at-rest .ensures) refl)
+loop-holds c = (omega arith, rw (c .four-at-rest2 .ensures, c .before .four-at-rest .ensures) refl)
 
 add-next : tie.Need-add-next Inv-loop μ-loop
 add-next c = search needs
@@ -61,8 +61,8 @@ run-eight-spec =
     (tie.spec
     Inv-loop
     μ-loop
-    at-rest-requires
-    at-rest-requires-2
+    four-at-rest-requires
+    four-at-rest-requires-2
     loop-holds
     add-next
     step-lanes-requires

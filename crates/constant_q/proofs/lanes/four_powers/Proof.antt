@@ -4,7 +4,7 @@ use Rattle.constant_q.proofs.lanes.four_powers.Statement.{statement}
 use Rattle.constant_q.proofs.lanes.four_powers.Tie as tie
 use native.Mathlib.Omega.{arith}
 use mathlib.Core.Path.{refl, ap}
-use Rattle.filters.specs.Four.{fourAlone}
+use Rattle.filters.specs.inside.Alone.{fourAlone}
 use Rattle.filters.specs.declared.four.Delays.{Delays}
 use Rattle.constant_q.specs.inside.Lanes.{fourPowers}
 

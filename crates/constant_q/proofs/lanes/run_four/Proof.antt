@@ -7,7 +7,7 @@ use Prim.Native.Nat.{_≤_, _-_}
 use mathlib.Core.Path.{_≡_, refl, ap, _∙_}
 use Rattle.laws.specs.Turns.{turns}
 use Rattle.filters.specs.Resonator.{resonated}
-use Rattle.filters.specs.Four.{fourAlone}
+use Rattle.filters.specs.inside.Alone.{fourAlone}
 use Rattle.constant_q.specs.inside.Lanes.{fourDelays}
 use Rattle.constant_q.proofs.Resonators.{lanes-more}
 
@@ -17,12 +17,12 @@ Inv-loop samples windows lanes n delays₀ i₀ delays i = (i ≤ n) × (delays 
 abbrev μ-loop : tie.MeasureT-loop
 μ-loop samples windows lanes n delays₀ i₀ delays i = n - i
 
-at-rest-requires : tie.Need-at-rest-requires Inv-loop μ-loop
-at-rest-requires c κs = search needs
+four-at-rest-requires : tie.Need-four-at-rest-requires Inv-loop μ-loop
+four-at-rest-requires c κs = search needs
 
 loop-holds : tie.Need-loop-holds Inv-loop μ-loop
 unfolding fourAlone resonated turns
-loop-holds c = (omega arith, rw (c .at-rest .ensures) refl)
+loop-holds c = (omega arith, rw (c .four-at-rest .ensures) refl)
 
 step-lanes-requires : tie.Need-step-lanes-requires Inv-loop μ-loop
 step-lanes-requires c κs = search needs
@@ -42,4 +42,4 @@ returns c = let last = c .before .loop in let a = c .before .before .before .bef
 pub run-four-spec : {M : Type 1} → statement M
 run-four-spec =
     tie.close
-    (tie.spec Inv-loop μ-loop at-rest-requires loop-holds step-lanes-requires add-i loop-less loop-again returns)
+    (tie.spec Inv-loop μ-loop four-at-rest-requires loop-holds step-lanes-requires add-i loop-less loop-again returns)

@@ -29,8 +29,8 @@ mul-coefficient c = search needs
 shared-slice-read-coefficient : tie.Need-shared-slice-read-coefficient Inv-loop μ-loop
 shared-slice-read-coefficient c = search needs
 
-run-one-requires : tie.Need-run-one-requires Inv-loop μ-loop
-run-one-requires c κs = search needs
+run-row-requires : tie.Need-run-row-requires Inv-loop μ-loop
+run-row-requires c κs = search needs
 
 last-magnitude-requires : tie.Need-last-magnitude-requires Inv-loop μ-loop
 last-magnitude-requires c κs = search needs
@@ -51,7 +51,7 @@ loop-again : tie.Need-loop-again Inv-loop μ-loop
 unfolding rowMagnitude
 loop-again c =
     let turn = c .before .before .before .before .loop in
-    (omega arith, turns-again _ _ (turn .k) (turn .inv .1) (omega arith) (rw (c .last-magnitude .ensures, c .before .run-one .ensures) refl), search needs)
+    (omega arith, turns-again _ _ (turn .k) (turn .inv .1) (omega arith) (rw (c .last-magnitude .ensures, c .before .run-row .ensures) refl), search needs)
 
 same-length : tie.Need-same-length Inv-loop μ-loop
 same-length c = search needs
@@ -68,7 +68,7 @@ write-singly-spec =
     loop-holds
     mul-coefficient
     shared-slice-read-coefficient
-    run-one-requires
+    run-row-requires
     last-magnitude-requires
     mul-room
     slice-write-room

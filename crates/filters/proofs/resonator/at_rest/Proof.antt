@@ -1,8 +1,8 @@
 -- The literals are the definition's.
 use mathlib.Core.Path.{refl}
 use lib.Ieee.{ofBits}
-use Rattle.filters.proofs.four.at_rest.Statement.{statement}
-use Rattle.filters.proofs.four.at_rest.Tie as tie
+use Rattle.filters.proofs.resonator.at_rest.Statement.{statement}
+use Rattle.filters.proofs.resonator.at_rest.Tie as tie
 
 returns : tie.Need-returns
 unfolding ofBits

@@ -1,12 +1,11 @@
 -- A value of the frame a turn.
 use borrow.Author.Needs.{needs}
-use Rattle.magnitudes.proofs.batch.run_one.Statement.{statement}
-use Rattle.magnitudes.proofs.batch.run_one.Tie as tie
+use Rattle.magnitudes.proofs.batch.run_row.Statement.{statement}
+use Rattle.magnitudes.proofs.batch.run_row.Tie as tie
 use native.Mathlib.Omega.{arith}
 use Prim.Native.Nat.{ℕ, _≤_, _-_}
 use mathlib.Core.Path.{_≡_, refl, _∙_}
 use lib.ListN.{length}
-use lib.Ieee.{ofBits}
 use Rattle.laws.specs.Turns.{turns}
 use Rattle.laws.proofs.Turns.{turns-start, turns-again, turns-end}
 use Rattle.filters.specs.Resonator.{steppedOf, resonated}
@@ -19,9 +18,12 @@ Inv-loop samples start window coefficient delay₀ i₀ delay i = (i ≤ length 
 abbrev μ-loop : tie.MeasureT-loop
 μ-loop samples start window coefficient delay₀ i₀ delay i = length window - i
 
+at-rest-requires : tie.Need-at-rest-requires Inv-loop μ-loop
+at-rest-requires c κs = search needs
+
 loop-holds : tie.Need-loop-holds Inv-loop μ-loop
-unfolding resonated ofBits
-loop-holds c = (omega arith, turns-start _ _ _)
+unfolding resonated
+loop-holds c = (omega arith, rw (c .at-rest .ensures) (turns-start _ _ _))
 
 add-windowed : tie.Need-add-windowed Inv-loop μ-loop
 add-windowed c = search needs
@@ -58,12 +60,13 @@ loop-again c =
 returns : tie.Need-returns Inv-loop μ-loop
 returns c = let end = c .before .loop in turns-end _ _ (end .i) (end .inv .1) (omega arith)
 
-pub run-one-spec : {M : Type 1} → statement M
-run-one-spec =
+pub run-row-spec : {M : Type 1} → statement M
+run-row-spec =
     tie.close
     (tie.spec
     Inv-loop
     μ-loop
+    at-rest-requires
     loop-holds
     add-windowed
     mul-windowed

@@ -1,7 +1,7 @@
 -- A value of the frame a turn.
 use borrow.Author.Needs.{needs}
-use Rattle.magnitudes.proofs.batch.run_four.Statement.{statement}
-use Rattle.magnitudes.proofs.batch.run_four.Tie as tie
+use Rattle.magnitudes.proofs.batch.run_batch.Statement.{statement}
+use Rattle.magnitudes.proofs.batch.run_batch.Tie as tie
 use native.Mathlib.Omega.{arith}
 use Prim.Native.Nat.{ℕ, _≤_, _-_}
 use mathlib.Core.Path.{_≡_, refl, _∙_}
@@ -18,12 +18,12 @@ Inv-loop samples start window coefficients delays₀ i₀ delays i = (i ≤ leng
 abbrev μ-loop : tie.MeasureT-loop
 μ-loop samples start window coefficients delays₀ i₀ delays i = length window - i
 
-at-rest-requires : tie.Need-at-rest-requires Inv-loop μ-loop
-at-rest-requires c κs = search needs
+four-at-rest-requires : tie.Need-four-at-rest-requires Inv-loop μ-loop
+four-at-rest-requires c κs = search needs
 
 loop-holds : tie.Need-loop-holds Inv-loop μ-loop
 unfolding fourResonated
-loop-holds c = (omega arith, rw (c .at-rest .ensures) (turns-start _ _ _))
+loop-holds c = (omega arith, rw (c .four-at-rest .ensures) (turns-start _ _ _))
 
 add-windowed : tie.Need-add-windowed Inv-loop μ-loop
 add-windowed c = search needs
@@ -60,13 +60,13 @@ loop-again c =
 returns : tie.Need-returns Inv-loop μ-loop
 returns c = let end = c .before .loop in turns-end _ _ (end .i) (end .inv .1) (omega arith)
 
-pub run-four-spec : {M : Type 1} → statement M
-run-four-spec =
+pub run-batch-spec : {M : Type 1} → statement M
+run-batch-spec =
     tie.close
     (tie.spec
     Inv-loop
     μ-loop
-    at-rest-requires
+    four-at-rest-requires
     loop-holds
     add-windowed
     mul-windowed

@@ -9,7 +9,8 @@ use Rattle.laws.specs.Turns.{turns}
 use Rattle.laws.proofs.Turns.{turns-keep}
 use Rattle.laws.specs.Front.{front}
 use Rattle.laws.proofs.Front.{Filled, filled-start, filled-more, filled-to}
-use Rattle.filters.specs.Four.{sameForFour, fourAlone, putFour}
+use Rattle.filters.specs.Four.{sameForFour, putFour}
+use Rattle.filters.specs.inside.Alone.{fourAlone}
 use Rattle.filters.proofs.Fours.{four-alone}
 use Rattle.filters.proofs.Rooms.{filled-four}
 use Rattle.filters.specs.declared.four.Four.{Four}

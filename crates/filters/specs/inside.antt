@@ -1,0 +1,2 @@
+-- Only for the code's own steps: no promise names what stands in this folder.
+pub mod Alone
