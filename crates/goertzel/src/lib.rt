@@ -2,6 +2,7 @@
 ghost use mathlib.Core.Path.{_≡_};
 ghost use Prim.Native.Nat.{_+_, _<_, _≤_};
 ghost use lib.ListN.{length};
+ghost use lib.Ieee.{binary32, mul};
 ghost use Rattle.goertzel.specs.Goertzel.{harmonicRow, harmonicAdded, contributionOf, contributionsByClass, goertzelOf};
 ghost use Rattle.goertzel.specs.inside.Rows.{goertzelRows, rowAt};
 use filters::classes::class_at;
@@ -54,6 +55,13 @@ fn contribution(magnitudes: &[f32], lowest: u8, k: usize) -> f32
     add_harmonic(third, magnitudes, lowest, k, 24, 0.25)
 }
 
+// A contribution under its row's weight.
+fn weighted(row: GoertzelRow, contribution: f32) -> f32
+    ensures { λ r. ⌜ r ≡ mul binary32 contribution (row .weight) ⌝ }
+{
+    contribution * row.weight
+}
+
 // What the rows contribute to each class.
 fn sum_contributions(
     lowest: u8,
@@ -69,7 +77,7 @@ fn sum_contributions(
     while k < magnitudes.len() {
         let row = row_at(coefficients, weights, k);
         let class = class_at(lowest, k);
-        sums[class] += contribution(magnitudes, lowest, k) * row.weight;
+        sums[class] += weighted(row, contribution(magnitudes, lowest, k));
         k += 1;
     }
     sums

@@ -32,6 +32,9 @@ class-at-requires c κs = search needs
 contribution-requires : tie.Need-contribution-requires Inv-loop μ-loop
 contribution-requires c κs = search needs
 
+weighted-requires : tie.Need-weighted-requires Inv-loop μ-loop
+weighted-requires c κs = search needs
+
 mul-sums : tie.Need-mul-sums Inv-loop μ-loop
 mul-sums c = search needs
 
@@ -49,7 +52,12 @@ loop-less c = search needs
 
 loop-again : tie.Need-loop-again Inv-loop μ-loop
 unfolding classAdded
-loop-again c = let turn = c .before .before .before .before .before .loop in (omega arith, turns-again _ _ (turn .k) (turn .inv .1) (c .before .before .before .before .loop-test .taken) (rw (c .before .before .class-at .ensures .0, c .before .contribution .ensures, c .before .before .before .row-at .ensures) refl))
+loop-again c =
+    let told = c .before in
+    let placed = told .before in
+    let read = placed .before in
+    let turn = read .before .before .loop in
+    (omega arith, turns-again _ _ (turn .k) (turn .inv .1) (read .before .loop-test .taken) (rw (c .weighted .ensures, placed .class-at .ensures .0, told .contribution .ensures, read .row-at .ensures) refl))
 
 returns : tie.Need-returns Inv-loop μ-loop
 returns c = let last = c .before .loop in turns-end _ _ (last .k) (last .inv .1) (omega arith)
@@ -64,6 +72,7 @@ sum-contributions-spec =
     row-at-requires
     class-at-requires
     contribution-requires
+    weighted-requires
     mul-sums
     array-read-sums
     array-write-sums
