@@ -57,7 +57,7 @@ extern "C" {
 #define ULYPTESH_CARD_SEGMENTS(bytes) ((8 * (size_t)(bytes) - 49) / 39)
 
 /* Why a call refuses. The first of 1, 2, 3, 13, 4, 5, 6, 7 and 8 that applies is answered, in this order, and the first
-   of 20 to 24. All but 9 and 10 write nothing but the answer. Numbers that are missing are not given. */
+   of 20 to 24. All but 9 write nothing but the answer. Numbers that are missing are not given. */
 typedef enum UlypteshRefusal {
     /* not refused; a track that tells no key has this too, with key 24 */
     ULYPTESH_DONE = 0,
@@ -79,8 +79,6 @@ typedef enum UlypteshRefusal {
     ULYPTESH_TOO_FEW_ROWS = 8,
     /* a loud frame's energy or chroma is not finite; the loud frames before it stand in their rows */
     ULYPTESH_FRAME_NOT_FINITE = 9,
-    /* analyse: a window's start did not grow by the hop; loud frames and the estimates so far stand in their rows */
-    ULYPTESH_WINDOW_STAYS = 10,
     /* key name: a number above 23; cards: a card rule is broken, or the segment slices are not equally long */
     ULYPTESH_UNWRITABLE = 11,
     /* fewer bytes are lent than the name or card has, and 11 does not apply */

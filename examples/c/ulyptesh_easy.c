@@ -446,7 +446,6 @@ const char *ulyptesh_easy_words(uint32_t status)
     case ULYPTESH_SHEET_NOT_WELL_FORMED: return "the sheet is not well formed";
     case ULYPTESH_TOO_FEW_ROWS: return "the track needs more rows or work numbers";
     case ULYPTESH_FRAME_NOT_FINITE: return "a loud frame is not finite";
-    case ULYPTESH_WINDOW_STAYS: return "the start of a window did not grow by the hop";
     case ULYPTESH_UNWRITABLE: return "no key has this number, or no card can be written";
     case ULYPTESH_TOO_FEW_BYTES: return "more bytes are needed";
     case ULYPTESH_UNKNOWN_ENGINE: return "the engine is neither 0 nor 1";

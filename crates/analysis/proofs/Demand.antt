@@ -18,7 +18,6 @@ use Rattle.calls.specs.declared.Settings.{Settings}
 use Rattle.checks.specs.declared.Checked.{Checked}
 use Rattle.checks.specs.declared.Checked.the-variants.{Refused, Empty, Go}
 use Rattle.checks.proofs.Passed.{Passed, passed}
-use Rattle.timeline.specs.Estimates.{holdingEstimates}
 use Rattle.timeline.specs.Segments.{segmentAt, segmentsIn, holdingSegments}
 use Rattle.timeline.specs.declared.segment.Segment.{Segment}
 use Rattle.windows.specs.Span.{spanOf}
@@ -27,7 +26,7 @@ use Rattle.windows.specs.declared.span.Span.{Span}
 use Rattle.one_frame.specs.declared.frame.Row.{Row}
 use Rattle.onsets.specs.Weighted.{weightedMedians}
 use Rattle.frames.specs.Run.{loudBefore, holdingFrames, stopAt}
-use Rattle.windows.specs.Run.{halts, estimatesOf}
+use Rattle.windows.specs.Run.{estimatesOf}
 use Rattle.windows.proofs.Spans.{duration-under}
 use Rattle.segments.specs.Demand.{LaidOut}
 use Rattle.segments.specs.inside.Fill.{cutOf, segmentsOf, filledOf}
@@ -46,10 +45,10 @@ use Rattle.answers.specs.Answer.{counts, keyless, withAlternate}
 use Rattle.answers.specs.declared.answer.Counts.{Counts}
 use Rattle.verdicts.specs.declared.verdict.Verdict.{Verdict}
 use Rattle.rooms.specs.Lent.{Lent}
-use Rattle.rooms.specs.inside.With.{withFrames, withSegments, workZeroed}
+use Rattle.rooms.specs.inside.With.{withFrames, workZeroed}
 use Rattle.rooms.specs.Room.{hasty, tooSmall}
 use Rattle.rooms.proofs.Budget.{finite-ordered, passed-timed}
-use Rattle.reports.specs.Report.{namedIn, Report, report, reportOf}
+use Rattle.reports.specs.Report.{namedIn, reportOf}
 use Rattle.reports.specs.inside.Rows.{trackOf}
 use Rattle.loud_frames.specs.Loud.{analyseOutcome, reportLeft, chromasOf, heardOf, loudAnalysed}
 use Rattle.positions.specs.Positions.{positionsAnalysed}
@@ -94,9 +93,9 @@ longest-answered threshold v c segments several = let told = longest-reported (v
 
 -- ---- the ways through a call
 -- an answer without a key
-keyless-keeps : (c : Call) (refusal position frames estimates : ℕ) (l : Lent) → DemandThree c (analyseOutcome (keyless refusal position frames estimates) l)
+keyless-keeps : (c : Call) (refusal position frames : ℕ) (l : Lent) → DemandThree c (analyseOutcome (keyless refusal position frames) l)
 unfolding keyless
-keyless-keeps c refusal position frames estimates l h = absurd (omega (arith, h))
+keyless-keeps c refusal position frames l h = absurd (omega (arith, h))
 
 module _ (c : Call) (typed : Typed (c .settings)) {crowded : Bool} {positions : ℕ} (p : Passed c (hasty (c .settings)) crowded positions) where
   abbrev s : Settings
@@ -122,15 +121,11 @@ module _ (c : Call) (typed : Typed (c .settings)) {crowded : Bool} {positions : 
   read v h l = filled-read-back (trackOf s span v) (estimatesOf span h) (l .segments)
 
   -- what is answered of them
-  told-keeps : (v : Verdict) (h : Heard) (l : Lent) → let found = estimatesOf span h in
-      let track = trackOf s span v in
-      let segments = segmentsOf track found in
-      DemandThree c (reportLeft l (report (namedIn (s .«alternate_coverage_threshold») v (counts (h .frames) (length found) (length segments)) segments) found (leftIn (s .«minimum_segment_seconds») (cutOf track found))))
-  unfolding namedIn withAlternate
-  told-keeps v h l = λ _.
+  report-keeps : (v : Verdict) (h : Heard) (l : Lent) → DemandThree c (reportLeft l (reportOf s (length (c .samples)) v h))
+  unfolding reportOf namedIn withAlternate segmentsOf trackOf
+  report-keeps v h l = λ _.
       let found = estimatesOf span h in
-      let track = trackOf s span v in
-      let segments = segmentsOf track found in
+      let segments = segmentsOf (trackOf s span v) found in
       let many = counts (h .frames) (length found) (length segments) in
       let out = laid v h in
       let threshold = s .«alternate_coverage_threshold» in
@@ -142,20 +137,13 @@ module _ (c : Call) (typed : Typed (c .settings)) {crowded : Bool} {positions : 
         alternate = alternating threshold v many segments (exactly-named segments out);
       })
 
-  report-keeps : (v : Verdict) (h : Heard) (l : Lent) → DemandThree c (reportLeft l (reportOf s (length (c .samples)) v h))
-  unfolding reportOf segmentsOf trackOf
-  report-keeps v h l =
-      by-test (λ (r : Report). DemandThree c (reportLeft l r)) (halts span)
-      (λ _. keyless-keeps c 10 0 (h .frames) (length (estimatesOf span h)) (withSegments (holdingEstimates (estimatesOf span h) (l .estimates)) (l .segments) l))
-      (λ _. told-keeps v h l)
-
   loud-keeps : (found : List Row) (l : Lent) → DemandThree c (loudAnalysed s (length (c .samples)) found l)
   unfolding loudAnalysed
   loud-keeps found l =
       let medians = weightedMedians (chromasOf found) (map (λ (r : Row). r .energy) found) (length found) in
       let worked = workZeroed (length found) l in
-      by-test (DemandThree c) (eqb (length found) 0) (λ _. keyless-keeps c 0 0 0 0 l)
-      (λ _. by-test (DemandThree c) (faint medians) (λ _. keyless-keeps c 0 0 (length found) 0 worked) (λ _. report-keeps (verdictOf medians (chromasOf found) (length found)) (heardOf found) worked))
+      by-test (DemandThree c) (eqb (length found) 0) (λ _. keyless-keeps c 0 0 0 l)
+      (λ _. by-test (DemandThree c) (faint medians) (λ _. keyless-keeps c 0 0 (length found) worked) (λ _. report-keeps (verdictOf medians (chromasOf found) (length found)) (heardOf found) worked))
 
   positions-keep : (l : Lent) → DemandThree c (positionsAnalysed c positions l)
   unfolding positionsAnalysed
@@ -163,14 +151,14 @@ module _ (c : Call) (typed : Typed (c .settings)) {crowded : Bool} {positions : 
       let k = stopAt c positions in
       let found = loudBefore c k in
       let held = withFrames (holdingFrames found (l .frames)) l in
-      by-test (DemandThree c) (ltb k positions) (λ _. keyless-keeps c 9 k (length found) 0 held) (λ _. loud-keeps found held)
+      by-test (DemandThree c) (ltb k positions) (λ _. keyless-keeps c 9 k (length found) held) (λ _. loud-keeps found held)
 
 pub analysis-keeps : AnalysisKeeps
 analysis-keeps c l typed = go (tableOf c l) refl
   where
     go : (checks : Checked) → tableOf c l ≡ checks → DemandThree c (afterChecks c l checks)
-    go (Refused n) e = keyless-keeps c n 0 0 0 l
-    go Empty e = keyless-keeps c 0 0 0 0 l
+    go (Refused n) e = keyless-keeps c n 0 0 l
+    go Empty e = keyless-keeps c 0 0 0 l
     go (Go positions) e =
         let p = passed c (hasty (c .settings)) (anyOf (tooSmall (c .settings) (length (c .samples)) l)) positions e in
         positions-keep c typed p l

@@ -39,10 +39,10 @@ module _ (c : Call) (l : Lent) where
   pub table-says : {flag crowded : Bool} {answer known : Checked} → flag ≡ hasty (c .settings) → crowded ≡ anyOf (tooSmall (c .settings) (length (c .samples)) l) → answer ≡ checked c flag crowded → answer ≡ known → tableOf c l ≡ known
   table-says f p e k = sym (ap₂ (checked c) f p) ∙ sym e ∙ k
 
-  pub refused-so : {n : ℕ} {r : AnalyseResult} → tableOf c l ≡ Refused n → r ≡ keyless n 0 0 0 → analyseOutcome r l ≡ analysed c l
+  pub refused-so : {n : ℕ} {r : AnalyseResult} → tableOf c l ≡ Refused n → r ≡ keyless n 0 0 → analyseOutcome r l ≡ analysed c l
   refused-so t e = ap (λ (a : AnalyseResult). analyseOutcome a l) e ∙ ap (afterChecks c l) (sym t)
 
-  pub empty-so : {r : AnalyseResult} → tableOf c l ≡ Empty → r ≡ keyless 0 0 0 0 → analyseOutcome r l ≡ analysed c l
+  pub empty-so : {r : AnalyseResult} → tableOf c l ≡ Empty → r ≡ keyless 0 0 0 → analyseOutcome r l ≡ analysed c l
   empty-so t e = ap (λ (a : AnalyseResult). analyseOutcome a l) e ∙ ap (afterChecks c l) (sym t)
 
   pub goes-so : {n : ℕ} {o : AnalyseOutcome} → tableOf c l ≡ Go n → o ≡ positionsAnalysed c n l → o ≡ analysed c l

@@ -15,13 +15,14 @@ use Rattle.timeline.specs.Estimates.{estimateRoom}
 use Rattle.timeline.specs.Segments.{segmentRoom}
 use Rattle.timeline.proofs.Rooms.{room-within, estimates-within}
 use Rattle.windows.specs.Span.{spanOf, windowsOf, rowsAsked}
-use Rattle.windows.proofs.Spans.{windows-asked, some-asked}
+use Rattle.windows.proofs.Spans.{windows-asked, some-asked, above-clear}
 use Rattle.rooms.specs.Lent.{Lent}
 use Rattle.rooms.specs.Room.{hasty, tooSmall}
 use Rattle.positions.specs.inside.Supplied.{Supplied}
 use Rattle.analysis.specs.Analyse.{tableOf}
 
 pub supplied : (c : Call) (l : Lent) (positions : ℕ) → c .sheet .head .«maximum_midi_note» < 256 → tableOf c l ≡ Go positions → Supplied c positions l
+unfolding spanOf
 supplied c l positions note e =
     let s = c .settings in
     let count = length (c .samples) in
@@ -39,7 +40,15 @@ supplied c l positions note e =
       ready = ready c (hasty s) (anyOf tests) (l .frames) positions note (omega (arith, rows, p .many)) e;
       work = omega (arith, work, p .many);
       prepared = record {
-        ready = record { timed = omega arith; valued = omega arith; centres = there .0; keys = there .1; confidences = there .2; shapeless = there .3 };
+        ready = record {
+          onward = above-clear (s .«local_hop_seconds») (p .worthwhile .spaced);
+          timed = omega arith;
+          valued = omega arith;
+          centres = there .0;
+          keys = there .1;
+          confidences = there .2;
+          shapeless = there .3;
+        };
         room = room-within (l .segments) (windowsOf span) (omega (arith, few, segments));
         one = room-within (l .segments) 1 (omega (arith, some, segments));
       };

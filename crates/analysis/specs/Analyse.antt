@@ -13,8 +13,8 @@ use Rattle.positions.specs.Positions.{positionsAnalysed}
 
 -- a call that the table refuses, or finds empty, changes nothing; any other goes through its frame positions
 abbrev pub afterChecks : Call → Lent → Checked → AnalyseOutcome
-afterChecks c l (Refused n) = analyseOutcome (keyless n 0 0 0) l
-afterChecks c l Empty = analyseOutcome (keyless 0 0 0 0) l
+afterChecks c l (Refused n) = analyseOutcome (keyless n 0 0) l
+afterChecks c l Empty = analyseOutcome (keyless 0 0 0) l
 afterChecks c l (Go positions) = positionsAnalysed c positions l
 
 -- what the table says of the call

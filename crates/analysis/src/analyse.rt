@@ -63,8 +63,8 @@ pub fn analyse(
         few,
         room,
     ) {
-        Checked::Refused(number) => keyless(number, 0, 0, 0),
-        Checked::Empty => keyless(0, 0, 0, 0),
+        Checked::Refused(number) => keyless(number, 0, 0),
+        Checked::Empty => keyless(0, 0, 0),
         Checked::Go(positions) => analyse_positions(
             settings,
             head,

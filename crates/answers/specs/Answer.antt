@@ -36,9 +36,9 @@ answerOf refusal position key alternate coverage confidence shapeless c chroma =
       chroma = chroma;
     }
 
--- without a key: a refusal, or 0 for the empty analysis
-unfoldable pub keyless : ℕ → ℕ → ℕ → ℕ → AnalyseResult
-keyless refusal position frames estimates = answerOf refusal position 24 24 plusZero plusZero false (counts frames estimates 0) (replicate 12 plusZero)
+-- without a key, by a refusal or 0 for the empty analysis: no rows but frames are written
+unfoldable pub keyless : ℕ → ℕ → ℕ → AnalyseResult
+keyless refusal position frames = answerOf refusal position 24 24 plusZero plusZero false (counts frames 0 0) (replicate 12 plusZero)
 
 -- with the reported key, and the alternate that is named or not
 unfoldable pub withAlternate : Verdict → Key → Counts → Alternate → AnalyseResult

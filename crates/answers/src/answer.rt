@@ -34,8 +34,8 @@ pub struct Counts {
 }
 
 // An answer without a key: a refusal, or the empty analysis.
-pub fn keyless(refusal: u32, position: usize, frames: usize, estimates: usize) -> AnalyseResult
-    ensures { λ r. ⌜ r ≡ keyless refusal position frames estimates ⌝ }
+pub fn keyless(refusal: u32, position: usize, frames: usize) -> AnalyseResult
+    ensures { λ r. ⌜ r ≡ keyless refusal position frames ⌝ }
 {
     AnalyseResult {
         refusal,
@@ -47,7 +47,7 @@ pub fn keyless(refusal: u32, position: usize, frames: usize, estimates: usize) -
         confidence: 0.0,
         shapeless: 0,
         frames: frames as u64,
-        estimates: estimates as u64,
+        estimates: 0,
         segments: 0,
         chroma: [0.0; 12],
     }

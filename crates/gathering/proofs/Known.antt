@@ -13,7 +13,7 @@ use Rattle.laws.specs.First.{first}
 use Rattle.laws.proofs.Cases.{same-test, lt-or-ge}
 use Rattle.laws.proofs.Every.{handed-on}
 use Rattle.laws.proofs.First.{first-before, first-or-end, first-within, first-from}
-use Rattle.laws.proofs.Order.{lt→le, le-trans, lt-of-le-of-lt}
+use Rattle.laws.proofs.Order.{le-trans, lt-of-le-of-lt}
 use Rattle.laws.proofs.Turns.{turns-start, turns-between}
 use Rattle.gathering.specs.Gather.{Heard, heard, withFrame, noneGathered, gatherTurn, gatheredOf, gatheredAfter, inWindow}
 use Rattle.gathering.specs.inside.Ahead.{rises, aheadOf, isFrom, firstFrom, skippedTo, isPast, stopOf, Known}
@@ -41,12 +41,12 @@ module _ {h : Heard} {a : Ahead} {start : Float} (known : Known h a start) where
       })
 
   -- what is before a start is before every later one
-  pub known-later : {later : Float} → T (lt start later) → Known h a later
-  known-later {later} grows =
+  pub known-later : {later : Float} → T (le start later) → Known h a later
+  known-later {later} onward =
       record {
         count = known .count;
         upto = known .upto;
-        behind = λ i l. let centre = getD (h .centres) i nan in same-test (le later centre) false (λ t. subst T (known .behind i l) (le-trans start later centre (lt→le start later grows) t)) (λ n. absurd n);
+        behind = λ i l. let centre = getD (h .centres) i nan in same-test (le later centre) false (λ t. subst T (known .behind i l) (le-trans start later centre onward t)) (λ n. absurd n);
         rising = known .rising;
       }
 

@@ -37,7 +37,7 @@ module _ (s : Settings) (count frames : ℕ) (l : Lent) where
   counted : {b : Bool} → eqb frames 0 ≡ b → eqb (length found) 0 ≡ b
   counted e = ap (λ (n : ℕ). eqb n 0) (long (l .frames) frames) ∙ e
 
-  pub none-loud : {r : AnalyseResult} → frames ≡ 0 → r ≡ keyless 0 0 0 0 → analyseOutcome r l ≡ loudAnalysed s count found l
+  pub none-loud : {r : AnalyseResult} → frames ≡ 0 → r ≡ keyless 0 0 0 → analyseOutcome r l ≡ loudAnalysed s count found l
   unfolding loudAnalysed
   none-loud none e = ap (λ (a : AnalyseResult). analyseOutcome a l) e ∙ rw (counted (eq-eqb frames 0 none))
 
@@ -51,11 +51,11 @@ module _ (s : Settings) (count frames : ℕ) (l : Lent) where
     worked : work ≡ front (replicate (length found) plusZero) (l .work)
     worked = zeroed ∙ ap (λ (n : ℕ). front (replicate n plusZero) (l .work)) (sym (long (l .frames) frames))
 
-    pub faint-so : {r : AnalyseResult} → flag ≡ true → r ≡ keyless 0 0 frames 0 → analyseOutcome r (lent (l .frames) work (l .estimates) (l .segments)) ≡ loudAnalysed s count found l
+    pub faint-so : {r : AnalyseResult} → flag ≡ true → r ≡ keyless 0 0 frames → analyseOutcome r (lent (l .frames) work (l .estimates) (l .segments)) ≡ loudAnalysed s count found l
     unfolding loudAnalysed
     faint-so {r} f e =
-        ap (λ (a : AnalyseResult). analyseOutcome a (lent (l .frames) work (l .estimates) (l .segments))) (e ∙ ap (λ (n : ℕ). keyless 0 0 n 0) (sym (long (l .frames) frames)))
-        ∙ ap (λ (w : List Float). analyseOutcome (keyless 0 0 (length found) 0) (lent (l .frames) w (l .estimates) (l .segments))) worked
+        ap (λ (a : AnalyseResult). analyseOutcome a (lent (l .frames) work (l .estimates) (l .segments))) (e ∙ ap (λ (n : ℕ). keyless 0 0 n) (sym (long (l .frames) frames)))
+        ∙ ap (λ (w : List Float). analyseOutcome (keyless 0 0 (length found)) (lent (l .frames) w (l .estimates) (l .segments))) worked
         ∙ rw (counted (ne-eqb frames 0 some), decided f)
 
     -- a report in its rows, with what else is lent

@@ -43,11 +43,11 @@ heardOf found = heard (length found) (map (λ (r : Row). r .centre) found) (chro
 -- the medians of the weighted chromas decide: the empty analysis where they are faint
 abbrev pub mediansAnalysed : Settings → ℕ → List Row → List Float → Lent → AnalyseOutcome
 mediansAnalysed s count found medians l =
-    cond (faint medians) (analyseOutcome (keyless 0 0 (length found) 0) l)
+    cond (faint medians) (analyseOutcome (keyless 0 0 (length found)) l)
     (reportLeft l (reportOf s count (verdictOf medians (chromasOf found) (length found)) (heardOf found)))
 
 -- the empty analysis where no frame is loud; the work numbers that the medians used end zeroed
 unfoldable pub loudAnalysed : Settings → ℕ → List Row → Lent → AnalyseOutcome
 loudAnalysed s count found l =
-    cond (eqb (length found) 0) (analyseOutcome (keyless 0 0 0 0) l)
+    cond (eqb (length found) 0) (analyseOutcome (keyless 0 0 0) l)
     (mediansAnalysed s count found (weightedMedians (chromasOf found) (map (λ (r : Row). r .energy) found) (length found)) (lent (l .frames) (front (replicate (length found) plusZero) (l .work)) (l .estimates) (l .segments)))

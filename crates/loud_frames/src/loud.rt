@@ -34,11 +34,11 @@ pub fn analyse_frames(
     ensures { λ r. ⌜ analyseOutcome r (lentAll (centres .entry) (values .entry) (energies .entry) (work .exit) (middles .exit) (numbers .exit) (certainties .exit) (shapeless .exit) (starts .exit) (ends .exit) (keys .exit) (confidences .exit)) ≡ loudAnalysed settings samples (framesIn (lentRows (centres .entry) (values .entry) (energies .entry)) frames) (lentAll (centres .entry) (values .entry) (energies .entry) (work .entry) (middles .entry) (numbers .entry) (certainties .entry) (shapeless .entry) (starts .entry) (ends .entry) (keys .entry) (confidences .entry)) ⌝ }
 {
     if frames == 0 {
-        return keyless(0, 0, 0, 0);
+        return keyless(0, 0, 0);
     }
     let medians = weighted_medians(values, energies, frames, work);
     if is_faint(&medians) {
-        return keyless(0, 0, frames, 0);
+        return keyless(0, 0, frames);
     }
     let verdict = judge_medians(&medians, values, frames);
     report_track(

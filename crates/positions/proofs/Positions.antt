@@ -63,7 +63,7 @@ module _ (c : Call) (positions : ℕ) (l : Lent) {filled : Filled} {now : Rows} 
         work = omega (arith, left .few, supplied .work);
         prepared =
             record {
-              ready = record { timed = left .centres; valued = left .values; centres = ready .centres; keys = ready .keys; confidences = ready .confidences; shapeless = ready .shapeless };
+              ready = record { onward = ready .onward; timed = left .centres; valued = left .values; centres = ready .centres; keys = ready .keys; confidences = ready .confidences; shapeless = ready .shapeless };
               room = supplied .prepared .room;
               one = supplied .prepared .one;
             };
@@ -110,14 +110,14 @@ module _ (c : Call) (positions : ℕ) (l : Lent) {filled : Filled} {now : Rows} 
   abbrev held : Lent
   held = withFrames (holdingFrames found (l .frames)) l
 
-  pub not-finite-so : {position n : ℕ} {r : AnalyseResult} → filled ≡ NotFinite position n → r ≡ keyless 9 position n 0 → analyseOutcome r (withFrames now l) ≡ positionsAnalysed c positions l
+  pub not-finite-so : {position n : ℕ} {r : AnalyseResult} → filled ≡ NotFinite position n → r ≡ keyless 9 position n → analyseOutcome r (withFrames now l) ≡ positionsAnalysed c positions l
   unfolding positionsAnalysed
   not-finite-so {position} {n} {r} broken e =
       let ended : ltb stop positions ≡ true = sym (says .ended) ∙ ap stopped broken in
       let at : position ≡ stop = sym (ap (place stop) broken) ∙ says .at in
       let count : n ≡ length found = sym (ap count-of broken) ∙ says .count in
-      ap (λ (a : AnalyseResult). analyseOutcome a (withFrames now l)) (e ∙ ap (λ (k : ℕ). keyless 9 k n 0) at ∙ ap (λ (k : ℕ). keyless 9 stop k 0) count)
-      ∙ ap (λ (rows : Rows). analyseOutcome (keyless 9 stop (length found) 0) (withFrames rows l)) (says .held)
+      ap (λ (a : AnalyseResult). analyseOutcome a (withFrames now l)) (e ∙ ap (λ (k : ℕ). keyless 9 k n) at ∙ ap (λ (k : ℕ). keyless 9 stop k) count)
+      ∙ ap (λ (rows : Rows). analyseOutcome (keyless 9 stop (length found)) (withFrames rows l)) (says .held)
       ∙ rw ended
 
   pub all-so : {n : ℕ} {o : AnalyseOutcome} → filled ≡ All n → o ≡ loudAnalysed (c .settings) (length (c .samples)) (framesIn now n) (withFrames now l) → o ≡ positionsAnalysed c positions l

@@ -15,4 +15,4 @@ positionsAnalysed c positions l =
     let k = stopAt c positions in
     let found = loudBefore c k in
     let held = lent (holdingFrames found (l .frames)) (l .work) (l .estimates) (l .segments) in
-    cond (ltb k positions) (analyseOutcome (keyless 9 k (length found) 0) held) (loudAnalysed (c .settings) (length (c .samples)) found held)
+    cond (ltb k positions) (analyseOutcome (keyless 9 k (length found)) held) (loudAnalysed (c .settings) (length (c .samples)) found held)

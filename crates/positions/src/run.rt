@@ -56,7 +56,7 @@ pub fn analyse_positions(
         values,
         energies,
     ) {
-        Filled::NotFinite(position, frames) => keyless(9, position, frames, 0),
+        Filled::NotFinite(position, frames) => keyless(9, position, frames),
         Filled::All(frames) => analyse_frames(
             settings,
             samples.len(),

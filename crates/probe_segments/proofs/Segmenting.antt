@@ -7,7 +7,8 @@ use native.Mathlib.Omega.{arith}
 use borrow.Author.Tests.{ltb-true, leb-true, eqb-true, not-true, not-false}
 use lib.Dec.{T, eqb, ltb, leb, ltb→lt}
 use lib.ListN.{length, getD}
-use lib.Ieee.{Float}
+use lib.Ieee.{Float, lt}
+use Rattle.laws.specs.Values.{plusZero, clear}
 use Rattle.laws.proofs.Every.{each}
 use Rattle.laws.proofs.Table.{each-of}
 use Rattle.calls.specs.declared.Settings.{Settings}
@@ -18,14 +19,13 @@ use Rattle.timeline.specs.inside.Segments.{Room, FilledRows, filledRows}
 use Rattle.timeline.proofs.Rooms.{room-within, estimates-within}
 use Rattle.windows.specs.Span.{spanOf, rowsAsked, windowsOf}
 use Rattle.windows.specs.declared.span.Span.{Span}
-use Rattle.windows.proofs.Spans.{windows-asked}
+use Rattle.windows.proofs.Spans.{windows-asked, above-clear}
 use Rattle.shortening.specs.inside.Settled.{settled}
 use Rattle.segments.specs.inside.Fill.{filledOf}
 use Rattle.segments.specs.inside.Located.{LocatedIn, locatedIn, locatedOf, Prepared}
 use Rattle.segments.specs.declared.fill.Track.{Track}
 use Rattle.segments.specs.declared.track.Located.{Located}
-use Rattle.probe_segments.specs.Segments.{isNumber, allNumbers, probedShorten, cutFits, probedCut, heardIn, fitsIn, counted, countedBy, probed, probedSegments}
-use Rattle.probe_segments.specs.declared.segments_of_frames.ProbedSegments.{ProbedSegments}
+use Rattle.probe_segments.specs.Segments.{isNumber, allNumbers, probedShorten, cutFits, probedCut, heardIn, canRun, counted, probed, probedSegments}
 
 pub numbered : (keys : List ℕ) (count : ℕ) → allNumbers keys count ≡ true → Numbered keys count
 numbered keys count e i h = ltb→lt (getD keys i 0) 24 (each (isNumber keys) count (subst T (sym e) tt) i h)
@@ -81,37 +81,40 @@ module _ (t : Track) (e : Columns) (rows : SegmentRows) {room : ℕ} {fit : Bool
     pub cut-so : {out : FilledRows} {track : Track} → not flag ≡ false → track ≡ t → out ≡ filledOf track (estimatesIn e (length (e .keys))) rows → out ≡ probedCut t e rows
     cut-so f same out = out ∙ ap (λ (x : Track). filledOf x (estimatesIn e (length (e .keys))) rows) same ∙ rw (fitting (passed told good), passed numbers f)
 
-module _ (s : Settings) (samples : ℕ) (t : Track) (centres : List Float) (values : List (List Float)) (e : EstimateRows) (rows : SegmentRows) {span : Span} {asked estimates room : ℕ} {flag : Bool} (spans : span ≡ spanOf s samples) (asks : asked ≡ rowsAsked span) (lent : estimates ≡ estimateRoom e) (left : room ≡ segmentRoom rows) (told : flag ≡ fitsIn asked estimates room) where
+module _ (s : Settings) (samples : ℕ) (t : Track) (centres : List Float) (values : List (List Float)) (e : EstimateRows) (rows : SegmentRows) {span : Span} {asked estimates room : ℕ} {flag : Bool} (spans : span ≡ spanOf s samples) (asks : asked ≡ rowsAsked span) (lent : estimates ≡ estimateRoom e) (left : room ≡ segmentRoom rows) (told : flag ≡ canRun (s .«local_hop_seconds») asked estimates room) where
   abbrev guard : Bool
-  guard = fitsIn (rowsAsked (spanOf s samples)) (estimateRoom e) (segmentRoom rows)
+  guard = canRun (s .«local_hop_seconds») (rowsAsked (spanOf s samples)) (estimateRoom e) (segmentRoom rows)
 
-  guarded : {b : Bool} → fitsIn asked estimates room ≡ b → guard ≡ b
+  guarded : {b : Bool} → canRun (s .«local_hop_seconds») asked estimates room ≡ b → guard ≡ b
   guarded p =
       let at : rowsAsked (spanOf s samples) ≡ asked = ap rowsAsked (sym spans) ∙ sym asks in
       rw (at, ← lent, ← left) p
 
-  pub little-room : not flag ≡ true → probed (counted 8 0 0) e rows ≡ probedSegments s samples t (heardIn centres values) e rows
-  little-room f = rw (guarded (failed told f))
+  pub not-run : not flag ≡ true → probed (counted 8 0 0) e rows ≡ probedSegments s samples t (heardIn centres values) e rows
+  not-run f = rw (guarded (failed told f))
 
   pub locate-needs : {frames : ℕ} → not flag ≡ false → frames ≡ min (length centres) (length values) → Prepared span (record { frames = frames; centres = centres; values = values }) e rows
+  unfolding spanOf
   locate-needs {frames} f many =
-      let test = each-of (leb asked estimates ∷ leb asked room ∷ leb 1 room ∷ []) (passed told f) in
-      let first = leb-true asked estimates (test 0) in
-      let second = leb-true asked room (test 1) in
-      let one = leb-true 1 room (test 2) in
+      let hop = s .«local_hop_seconds» in
+      let test = each-of (lt plusZero hop ∷ leb asked estimates ∷ leb asked room ∷ leb 1 room ∷ []) (passed told f) in
+      let onward : T (clear (spanOf s samples .hop)) = above-clear hop (subst T (sym (test 0)) tt) in
+      let first = leb-true asked estimates (test 1) in
+      let second = leb-true asked room (test 2) in
+      let one = leb-true 1 room (test 3) in
       let few = windows-asked span in
       let there = estimates-within e (windowsOf span) (omega (arith, first, few, asks, lent)) in
       record {
-        ready = record { timed = omega (arith, many); valued = omega (arith, many); centres = there .0; keys = there .1; confidences = there .2; shapeless = there .3 };
+        ready = record { onward = subst (λ (x : Span). T (clear (x .hop))) (sym spans) onward; timed = omega (arith, many); valued = omega (arith, many); centres = there .0; keys = there .1; confidences = there .2; shapeless = there .3 };
         room = room-within rows (windowsOf span) (omega (arith, second, few, asks, left));
         one = room-within rows 1 (omega (arith, one, left));
       }
 
-  pub located-so : {frames : ℕ} {track : Track} {located : Located} {answer : ProbedSegments} {e' : EstimateRows} {rows' : SegmentRows} → not flag ≡ false → frames ≡ min (length centres) (length values) → track ≡ t
-      → locatedIn located e' rows' ≡ locatedOf span track (record { frames = frames; centres = centres; values = values }) e rows → answer ≡ countedBy located → probed answer e' rows' ≡ probedSegments s samples t (heardIn centres values) e rows
-  located-so {frames} {track} {located} {answer} {e'} {rows'} f many same found counts =
+  pub located-so : {frames : ℕ} {track : Track} {located : Located} {e' : EstimateRows} {rows' : SegmentRows} → not flag ≡ false → frames ≡ min (length centres) (length values) → track ≡ t
+      → locatedIn located e' rows' ≡ locatedOf span track (record { frames = frames; centres = centres; values = values }) e rows → probed (counted 0 (located .estimates) (located .segments)) e' rows' ≡ probedSegments s samples t (heardIn centres values) e rows
+  located-so {frames} {track} {located} {e'} {rows'} f many same found =
       let here : locatedIn located e' rows' ≡ locatedOf (spanOf s samples) t (heardIn centres values) e rows = found
       ∙ ap (λ (x : Span). locatedOf x track (record { frames = frames; centres = centres; values = values }) e rows) spans
       ∙ ap (λ (x : Track). locatedOf (spanOf s samples) x (record { frames = frames; centres = centres; values = values }) e rows) same
       ∙ ap (λ (n : ℕ). locatedOf (spanOf s samples) t (record { frames = n; centres = centres; values = values }) e rows) many in
-      ap (λ (a : ProbedSegments). probed a e' rows') counts ∙ ap (λ (o : LocatedIn). probed (countedBy (o .answer)) (o .estimates) (o .segments)) here ∙ rw (guarded (passed told f))
+      ap (λ (o : LocatedIn). probed (counted 0 (o .answer .estimates) (o .answer .segments)) (o .estimates) (o .segments)) here ∙ rw (guarded (passed told f))

@@ -4,7 +4,8 @@ use mathlib.Core.Bool.{Bool, cond}
 use mathlib.Core.List.{List, [], _∷_}
 use lib.Dec.{eqb, ltb, leb}
 use lib.ListN.{length, getD}
-use lib.Ieee.{Float}
+use lib.Ieee.{Float, lt}
+use Rattle.laws.specs.Values.{plusZero}
 use Rattle.laws.specs.Every.{every}
 use Rattle.laws.specs.Table.{allOf}
 use Rattle.keys.specs.Numbers.{keyNumber, keyAt}
@@ -20,8 +21,6 @@ use Rattle.shortening.specs.inside.Settled.{settled}
 use Rattle.segments.specs.inside.Fill.{filledOf}
 use Rattle.segments.specs.inside.Located.{locatedOf}
 use Rattle.segments.specs.declared.fill.Track.{Track}
-use Rattle.segments.specs.declared.track.Located.{Located}
-use Rattle.segments.specs.declared.track.Located.the-variants.{Told, Halted}
 use Rattle.longest.specs.Longest.{reportedOf}
 use Rattle.alternates.specs.Alternate.{alternateOf, alternateNumber, alternateCoverage}
 use Rattle.alternates.specs.declared.alternate.Alternate.{Alternate}
@@ -78,18 +77,13 @@ heardIn centres values = heard (min (length centres) (length values)) centres va
 abbrev pub probedTrack : Settings → ℕ → ℕ → Float → Track
 probedTrack s samples key confidence = trackOf (s .«segment_confidence_threshold») (s .«minimum_segment_seconds») (spanOf s samples .duration) key confidence
 
--- both kinds of rows have the room that the windows ask for
-abbrev pub fitsIn : ℕ → ℕ → ℕ → Bool
-fitsIn asked estimates segments = allOf (leb asked estimates ∷ leb asked segments ∷ leb 1 segments ∷ [])
+-- the hop is above 0, and both kinds of rows have the room that the windows ask for
+abbrev pub canRun : Float → ℕ → ℕ → ℕ → Bool
+canRun hop asked estimates segments = allOf (lt plusZero hop ∷ leb asked estimates ∷ leb asked segments ∷ leb 1 segments ∷ [])
 
--- the counts with an outcome: 0, 8 for too little room, 10 for a start that did not grow
+-- the counts with an outcome: 0, or 8 where that does not hold
 abbrev pub counted : ℕ → ℕ → ℕ → ProbedSegments
 counted outcome estimates segments = record { outcome = outcome; estimates = estimates; segments = segments }
-
--- by what was located
-abbrev pub countedBy : Located → ProbedSegments
-countedBy (Told estimates segments) = counted 0 estimates segments
-countedBy (Halted estimates) = counted 10 estimates 0
 
 -- what is answered, and the rows that are left
 pub record Probed : Type 0 where
@@ -101,8 +95,10 @@ pub record Probed : Type 0 where
 abbrev pub probed : ProbedSegments → EstimateRows → SegmentRows → Probed
 probed answer estimates segments = record { answer = answer; estimates = estimates; segments = segments }
 
--- the whole way from frames to segments, where there is room
+-- the whole way from frames to segments, where the windows go on and there is room
 abbrev pub probedSegments : Settings → ℕ → Track → Heard → EstimateRows → SegmentRows → Probed
 probedSegments s samples t h e rows =
     let found = locatedOf (spanOf s samples) t h e rows in
-    cond (fitsIn (rowsAsked (spanOf s samples)) (estimateRoom e) (segmentRoom rows)) (probed (countedBy (found .answer)) (found .estimates) (found .segments)) (probed (counted 8 0 0) e rows)
+    cond (canRun (s .«local_hop_seconds») (rowsAsked (spanOf s samples)) (estimateRoom e) (segmentRoom rows))
+    (probed (counted 0 (found .answer .estimates) (found .answer .segments)) (found .estimates) (found .segments))
+    (probed (counted 8 0 0) e rows)

@@ -2,13 +2,12 @@
 ghost use mathlib.Core.Path.{_≡_};
 ghost use Rattle.timeline.specs.Estimates.{lentEstimates};
 ghost use Rattle.timeline.specs.Segments.{lentSegments};
-ghost use Rattle.probe_segments.specs.Segments.{heardIn, probedTrack, fitsIn, countedBy, probed, probedSegments};
+ghost use Rattle.probe_segments.specs.Segments.{heardIn, probedTrack, canRun, probed, probedSegments};
 use crate::segments_of_rows::track_of;
 use calls::Settings;
 use conversions::widen;
 use numbers::counts::fewer;
 use segments::fill::Track;
-use segments::track::Located;
 use segments::track::locate_segments;
 use timeline::estimate::estimate_room;
 use timeline::segment::segment_room;
@@ -23,29 +22,11 @@ pub struct ProbedSegments {
     pub segments: usize,
 }
 
-// The counts of what was located: outcome 10 where a start did not grow.
-fn counted_by(located: Located) -> ProbedSegments
-    ensures { λ r. ⌜ r ≡ countedBy located ⌝ }
+// Whether the hop is above 0, and both kinds of rows have the room that the windows ask for.
+fn can_run(hop: f32, asked: usize, estimates: usize, segments: usize) -> bool
+    ensures { λ r. ⌜ r ≡ canRun hop asked estimates segments ⌝ }
 {
-    match located {
-        Located::Told(estimates, segments) => ProbedSegments {
-            outcome: 0,
-            estimates,
-            segments,
-        },
-        Located::Halted(estimates) => ProbedSegments {
-            outcome: 10,
-            estimates,
-            segments: 0,
-        },
-    }
-}
-
-// Whether both kinds of rows have the room that the windows ask for.
-fn fits_in(asked: usize, estimates: usize, segments: usize) -> bool
-    ensures { λ r. ⌜ r ≡ fitsIn asked estimates segments ⌝ }
-{
-    (asked <= estimates) & (asked <= segments) & (1 <= segments)
+    (0.0 < hop) & (asked <= estimates) & (asked <= segments) & (1 <= segments)
 }
 
 // The track that the settings tell of, with its own key.
@@ -63,7 +44,7 @@ fn probed_track(settings: Settings, samples: usize, key: u8, confidence: f32) ->
     )
 }
 
-// Estimates and segments of a track, where there is room for them.
+// Estimates and segments of a track, where its windows go on and there is room for them.
 #[no_mangle]
 pub extern "C" fn probe_segments(
     settings: Settings,
@@ -87,7 +68,7 @@ pub extern "C" fn probe_segments(
     let asked = rows_asked(span);
     let estimates = estimate_room(middles, numbers, certainties, shapeless);
     let room = segment_room(starts, ends, keys, confidences);
-    if !fits_in(asked, estimates, room) {
+    if !can_run(settings.local_hop_seconds, asked, estimates, room) {
         return ProbedSegments {
             outcome: 8,
             estimates: 0,
@@ -111,5 +92,9 @@ pub extern "C" fn probe_segments(
         keys,
         confidences,
     );
-    counted_by(located)
+    ProbedSegments {
+        outcome: 0,
+        estimates: located.estimates,
+        segments: located.segments,
+    }
 }

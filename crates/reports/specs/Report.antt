@@ -1,7 +1,6 @@
 -- From the verdict on a track to the answer, written from the Rust's `analyze`. Definitions only.
 use Prim.Native.Nat.{ℕ}
-use mathlib.Core.Bool.{cond}
-use mathlib.Core.List.{List, []}
+use mathlib.Core.List.{List}
 use lib.ListN.{length}
 use lib.Ieee.{Float}
 use Rattle.keys.specs.Numbers.{keyNumber}
@@ -10,12 +9,12 @@ use Rattle.timeline.specs.declared.estimate.Estimate.{Estimate}
 use Rattle.timeline.specs.declared.segment.Segment.{Segment}
 use Rattle.gathering.specs.Gather.{Heard}
 use Rattle.windows.specs.Span.{spanOf}
-use Rattle.windows.specs.Run.{halts, estimatesOf}
+use Rattle.windows.specs.Run.{estimatesOf}
 use Rattle.groups.specs.Groups.{firstSegments}
 use Rattle.shortening.specs.Shorten.{shortenedOf, leftIn}
 use Rattle.longest.specs.Longest.{reportedOf}
 use Rattle.alternates.specs.Alternate.{alternateOf}
-use Rattle.answers.specs.Answer.{counts, keyless, withAlternate}
+use Rattle.answers.specs.Answer.{counts, withAlternate}
 use Rattle.answers.specs.declared.answer.AnalyseResult.{AnalyseResult}
 use Rattle.answers.specs.declared.answer.Counts.{Counts}
 use Rattle.verdicts.specs.declared.verdict.Verdict.{Verdict}
@@ -36,12 +35,11 @@ pub record Report : Type 0 where
 abbrev pub report : AnalyseResult → List Estimate → List Segment → Report
 report answer estimates segments = record { answer = answer; estimates = estimates; segments = segments }
 
--- the windows' estimates cut into segments, the short ones joined, the keys named; number 10 and no segment where the start of a window did not grow
+-- the windows' estimates cut into segments, the short ones joined, the keys named
 unfoldable pub reportOf : Settings → ℕ → Verdict → Heard → Report
 reportOf s count v h =
     let span = spanOf s count in
     let found = estimatesOf span h in
     let cut = firstSegments (s .«segment_confidence_threshold») (span .duration) (v .key) (v .confidence) found in
     let segments = shortenedOf (s .«minimum_segment_seconds») cut in
-    cond (halts span) (report (keyless 10 0 (h .frames) (length found)) found [])
-    (report (namedIn (s .«alternate_coverage_threshold») v (counts (h .frames) (length found) (length segments)) segments) found (leftIn (s .«minimum_segment_seconds») cut))
+    report (namedIn (s .«alternate_coverage_threshold») v (counts (h .frames) (length found) (length segments)) segments) found (leftIn (s .«minimum_segment_seconds») cut)

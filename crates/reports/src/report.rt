@@ -11,13 +11,11 @@ ghost use Rattle.reports.specs.inside.Rows.{trackOf, reported, reportedI
 use alternates::alternate::alternate_key;
 use answers::answer::AnalyseResult;
 use answers::answer::Counts;
-use answers::answer::keyless;
 use answers::answer::with_alternate;
 use calls::Settings;
 use conversions::widen;
 use longest::longest::reported_key;
 use segments::fill::Track;
-use segments::track::Located;
 use segments::track::locate_segments;
 use verdicts::verdict::Verdict;
 use windows::span::Span;
@@ -87,7 +85,7 @@ pub fn report_track(
 {
     let span = span_of(settings, samples);
     let track = track_of(settings, span, verdict);
-    match locate_segments(
+    let located = locate_segments(
         span,
         track,
         frames,
@@ -101,20 +99,18 @@ pub fn report_track(
         ends,
         keys,
         confidences,
-    ) {
-        Located::Halted(estimates) => keyless(10, 0, frames, estimates),
-        Located::Told(estimates, segments) => name_keys(
-            settings.alternate_coverage_threshold,
-            verdict,
-            Counts {
-                frames,
-                estimates,
-                segments,
-            },
-            starts,
-            ends,
-            keys,
-            confidences,
-        ),
-    }
+    );
+    name_keys(
+        settings.alternate_coverage_threshold,
+        verdict,
+        Counts {
+            frames,
+            estimates: located.estimates,
+            segments: located.segments,
+        },
+        starts,
+        ends,
+        keys,
+        confidences,
+    )
 }

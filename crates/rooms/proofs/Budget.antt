@@ -1,4 +1,4 @@
--- The checks leave a hop of half a second at least and a duration within the longest track, so the starts spread and the budget suffices.
+-- The checks leave a hop of half a second at least and a duration within the longest track, so the starts grow and the budget suffices.
 use mathlib.Core.Path.{_≡_, refl, sym, subst}
 use mathlib.Core.Bool.{Bool, not}
 use Prim.Native.Nat.{ℕ}
@@ -15,7 +15,7 @@ use Rattle.windows.specs.Span.{spanOf}
 use Rattle.windows.specs.Rising.{Timed}
 use Rattle.windows.specs.Budget.{Spread}
 use Rattle.windows.proofs.Spans.{duration-under, span-timed}
-use Rattle.windows.proofs.Budget.{budget-suffices}
+use Rattle.windows.proofs.Budget.{asked-passes}
 use Rattle.rooms.specs.Room.{hasty}
 use Rattle.rooms.specs.Budget.{LoopEndsItself}
 
@@ -54,4 +54,4 @@ module _ (c : Call) (typed : Typed (c .settings)) {crowded : Bool} {positions : 
 
 pub loop-ends-itself : LoopEndsItself
 loop-ends-itself c crowded positions typed e =
-    budget-suffices (spanOf (c .settings) (length (c .samples))) longestTrack (passed-spread c typed (passed c (hasty (c .settings)) crowded positions e))
+    asked-passes (spanOf (c .settings) (length (c .samples))) (passed-spread c typed (passed c (hasty (c .settings)) crowded positions e))

@@ -1,4 +1,4 @@
--- The estimates of the windows that are passed have centres that rise, so their segments are laid out; and these read back from their rows as they were shortened.
+-- The estimates of the windows have centres that rise, so their segments are laid out; and these read back from their rows as they were shortened.
 use mathlib.Core.Path.{_≡_, sym, ap, subst, _∙_}
 use mathlib.Core.Bool.{Bool, true, false, cond}
 use mathlib.Core.List.{List, _++_}
@@ -16,7 +16,7 @@ use Rattle.timeline.specs.declared.segment.Segment.{Segment}
 use Rattle.timeline.proofs.Segments.{segment-there, segments-read-back}
 use Rattle.windows.specs.Span.{brief, budgetFor, windowsWithin, windowsOf}
 use Rattle.calls.specs.Call.{longestTrack}
-use Rattle.windows.specs.Run.{estimatesBefore, windowsPassed}
+use Rattle.windows.specs.Run.{estimatesOf}
 use Rattle.windows.specs.declared.span.Span.{Span}
 use Rattle.windows.proofs.Found.{estimates-few}
 use Rattle.windows.proofs.Rising.{centres-rise}
@@ -63,15 +63,12 @@ windows-passed s = either (brief s) (windowsWithin (budgetFor longestTrack) s)
     either false n = omega arith
 
 pub track-laid-out : TrackLaidOut
-unfolding windowsPassed
 track-laid-out s t h timed same =
-    let k = windowsPassed s in
-    let found = estimatesBefore s h k in
-    let most : k ≤ windowsOf s = omega arith in
-    let rising = centres-rise s h (budgetFor longestTrack) k timed (omega (arith, most, windows-passed s)) in
+    let found = estimatesOf s h in
+    let rising = centres-rise s h (budgetFor longestTrack) (windowsOf s) timed (windows-passed s) in
     let tiled = segments-tile t found (subst (Modest binary64) (sym same) (timed .duration)) (subst (λ (x : Float). Rising x found) (sym same) rising) in
     record {
       tiles = subst (λ (x : Float). Tiles x (segmentsOf t found)) same tiled;
       none-short = no-segment-short t found;
-      few = let few = windows-few s in omega (arith, most, few, estimates-few s h k, count-few t found);
+      few = let few = windows-few s in omega (arith, few, estimates-few s h (windowsOf s), count-few t found);
     }

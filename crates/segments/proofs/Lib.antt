@@ -1,5 +1,5 @@
 mod Fills
 mod Locates
 pub mod Demand
-pub mod Told
+pub mod Located
 pub mod LaidOut

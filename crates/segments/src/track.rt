@@ -6,15 +6,14 @@ ghost use Rattle.gathering.specs.Gather.{heard};
 ghost use Rattle.segments.specs.inside.Located.{locatedIn, locatedOf, Prepared};
 use crate::fill::Track;
 use crate::fill::fill_segments;
-use windows::run::Estimated;
 use windows::run::fill_estimates;
 use windows::span::Span;
 use windows::span::count_windows;
 
-// So many estimates and segments, or so many estimates before a window's start that did not grow.
-pub enum Located {
-    Told(usize, usize),
-    Halted(usize),
+// How many estimates and segments there are.
+pub struct Located {
+    pub estimates: usize,
+    pub segments: usize,
 }
 
 // Estimates go into their rows, and the segments made of them into theirs.
@@ -37,7 +36,7 @@ pub fn locate_segments(
     ensures { λ r. ⌜ locatedIn r (lentEstimates (middles .exit) (numbers .exit) (certainties .exit) (shapeless .exit)) (lentSegments (starts .exit) (ends .exit) (keys .exit) (confidences .exit)) ≡ locatedOf span track (heard frames (now (centres .entry)) (now (values .entry))) (lentEstimates (middles .entry) (numbers .entry) (certainties .entry) (shapeless .entry)) (lentSegments (starts .entry) (ends .entry) (keys .entry) (confidences .entry)) ⌝ }
 {
     let windows = count_windows(span);
-    let run = fill_estimates(
+    let estimates = fill_estimates(
         span,
         windows,
         frames,
@@ -48,21 +47,19 @@ pub fn locate_segments(
         certainties,
         shapeless,
     );
-    match run {
-        Estimated::Stuck(found) => Located::Halted(found),
-        Estimated::All(found) => {
-            let count = fill_segments(
-                track,
-                found,
-                middles,
-                numbers,
-                certainties,
-                starts,
-                ends,
-                keys,
-                confidences,
-            );
-            Located::Told(found, count)
-        }
+    let segments = fill_segments(
+        track,
+        estimates,
+        middles,
+        numbers,
+        certainties,
+        starts,
+        ends,
+        keys,
+        confidences,
+    );
+    Located {
+        estimates,
+        segments,
     }
 }

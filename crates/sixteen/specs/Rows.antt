@@ -192,7 +192,7 @@ rowO = record { letter = 111; holds = writes aMinor (0x1a ∷ 0xd7 ∷ 0x00 ∷ 
 
 -- the empty analysis: the answer without a refusal, a key or a row
 abbrev pub emptyAnalysis : Analysis
-emptyAnalysis = cardOfAnswer (keyless 0 0 0 0) (segmentRows [] [] [] [])
+emptyAnalysis = cardOfAnswer (keyless 0 0 0) (segmentRows [] [] [] [])
 
 -- its card
 unfoldable pub rowP : Row

@@ -1,25 +1,28 @@
--- The budget: each start is at least half a second after the one before it, so the start behind the budget is after the longest duration.
-use mathlib.Core.Path.{_≡_, sym, ap, subst, _∙_}
+-- Each start is at least half a second after the one before it: so the start behind the budget is after the longest duration, and one that is not after it grows.
+use mathlib.Core.Path.{_≡_, refl, sym, ap, subst, _∙_}
 use mathlib.Core.Logic.{inl, inr}
-use mathlib.Core.Bool.{true, false, not}
+use mathlib.Core.Bool.{Bool, true, false, not}
 use Prim.Native.Nat.{ℕ, _+_, _-_, _*_, _^_, _<_, _≤_}
 use native.Mathlib.Nat.{zero-add}
 use native.Mathlib.Omega.{arith}
-use lib.Dec.{T, not-T, lit≤, lit<}
+use borrow.Author.Tests.{not-false}
+use lib.Dec.{T, not-T, T-not, lit≤, lit<}
 use lib.Ieee.{Float, binary64, add, lt, le, round}
 use lib.Ieee.Scale.{round-same}
 use Rattle.laws.specs.Values.{clear}
 use Rattle.laws.specs.Convert.{parts}
-use Rattle.laws.proofs.Cases.{same-test}
-use Rattle.laws.proofs.First.{first-or-end}
-use Rattle.laws.proofs.Order.{le-refl, le-trans, lt-not-le, lt-of-le-of-lt}
+use Rattle.laws.proofs.Cases.{same-test, lt-or-ge}
+use Rattle.laws.proofs.First.{first-before, first-or-end}
+use Rattle.laws.proofs.Order.{not-lt→le, le-refl, le-trans, le-left, lt-not-le, lt-of-le-of-lt}
 use Rattle.laws.proofs.Nonneg.{nonneg→clear, clear→ordered, add-clear}
-use Rattle.laws.proofs.Zero.{add-right}
-use Rattle.laws.proofs.Parts.{parts-clear, parts-mono, parts-held, add-parts, add-over, add-grows}
-use Rattle.windows.specs.Span.{startOf, endsAt, budgetFor, windowsWithin}
-use Rattle.windows.specs.Budget.{Spread, StartsSpread, BudgetSuffices}
+use Rattle.laws.proofs.Zero.{plusZero-add, add-right}
+use Rattle.laws.proofs.Middle.{modest-under}
+use Rattle.laws.proofs.Parts.{parts-clear, parts-mono, parts-held, parts-modest, add-parts, add-over, add-grows}
+use Rattle.calls.specs.Call.{longestTrack}
+use Rattle.windows.specs.Span.{brief, startOf, endsAt, budgetFor, windowsWithin, windowsOf, rowsAsked}
+use Rattle.windows.specs.Budget.{Spread, StartsSpread, StartsGrow, BudgetSuffices, Passes}
 use Rattle.windows.specs.declared.span.Span.{Span}
-use Rattle.windows.proofs.Starts.{start-each, start-fits, start-clear}
+use Rattle.windows.proofs.Starts.{start-first, start-next, start-each, start-fits, start-clear}
 
 module _ (s : Span) (seconds : ℕ) (spread : Spread s seconds) where
   spread-out : (k : ℕ) → T (clear (startOf s k)) × (k ≤ budgetFor seconds → T (le (parts binary64 1 k) (startOf s k)))
@@ -51,16 +54,42 @@ half-after seconds h =
     let twice : seconds * 2 ≡ 2 * seconds * 1 = omega arith in
     subst (λ (z : Float). T (lt z (parts binary64 1 (budgetFor seconds)))) (sym (round-same binary64 false seconds 1 (2 * seconds) 2 (lit< tt) (lit< tt) twice)) (half-more (2 * seconds) h)
 
--- the start behind the budget
-ends-there : (s : Span) (seconds : ℕ) → Spread s seconds → endsAt s (budgetFor seconds) ≡ true
-unfolding endsAt
-ends-there s seconds spread =
-    let start = startOf s (budgetFor seconds) in
-    let end = add binary64 start (s .window) in
-    let behind = parts binary64 1 (budgetFor seconds) in
-    let after : T (le behind end) = le-trans behind start end (starts-spread s seconds (budgetFor seconds) spread (omega arith)) (add-right binary64 start (s .window) (start-fits s (budgetFor seconds)) (start-clear s (spread .hop) (budgetFor seconds)) (nonneg→clear (s .window) (spread .window .at-least-zero))) in
-    same-test (not (le end (s .duration))) true (λ _. tt) (λ _. not-T (le end (s .duration)) (λ (inside : T (le end (s .duration))).
-    lt-not-le (parts binary64 0 seconds) behind (half-after seconds (spread .exact)) (le-trans behind end (parts binary64 0 seconds) after (le-trans end (s .duration) (parts binary64 0 seconds) inside (spread .duration)))))
+module _ (s : Span) (seconds : ℕ) (spread : Spread s seconds) where
+  -- no window ends before it starts
+  forward : (k : ℕ) → T (le (startOf s k) (add binary64 (startOf s k) (s .window)))
+  forward k = add-right binary64 (startOf s k) (s .window) (start-fits s k) (start-clear s (spread .hop) k) (nonneg→clear (s .window) (spread .window .at-least-zero))
+
+  -- where the loop's own test has passed, the start is not after the last second, and grows
+  grows-there : (k : ℕ) → endsAt s k ≡ false → T (lt (startOf s k) (startOf s (k + 1)))
+  unfolding endsAt
+  grows-there k passes =
+      let start = startOf s k in
+      let end = add binary64 start (s .window) in
+      let last = parts binary64 0 seconds in
+      let inside : T (le end (s .duration)) = subst T (sym (not-false (le end (s .duration)) passes)) tt in
+      let under : T (le start last) = le-trans start end last (forward k) (le-trans end (s .duration) last inside (spread .duration)) in
+      let modest = modest-under binary64 start last (start-fits s k) (start-clear s (spread .hop) k) (parts-modest binary64 0 (lit≤ tt) seconds (omega (arith, spread .exact))) under in
+      subst (λ (x : Float). T (lt start x)) (start-next s k refl)
+      (add-grows binary64 1 (lit≤ tt) start (s .hop) (budgetFor seconds) (modest .held .at-least-zero) (spread .hop) (lt-of-le-of-lt start last (parts binary64 1 (budgetFor seconds)) under (half-after seconds (spread .exact))) (spread .exact) (spread .half-second))
+
+  -- the start behind the budget
+  ends-there : endsAt s (budgetFor seconds) ≡ true
+  unfolding endsAt
+  ends-there =
+      let start = startOf s (budgetFor seconds) in
+      let end = add binary64 start (s .window) in
+      let behind = parts binary64 1 (budgetFor seconds) in
+      let after : T (le behind end) = le-trans behind start end (starts-spread s seconds (budgetFor seconds) spread (omega arith)) (forward (budgetFor seconds)) in
+      same-test (not (le end (s .duration))) true (λ _. tt) (λ _. not-T (le end (s .duration)) (λ (inside : T (le end (s .duration))).
+      lt-not-le (parts binary64 0 seconds) behind (half-after seconds (spread .exact)) (le-trans behind end (parts binary64 0 seconds) after (le-trans end (s .duration) (parts binary64 0 seconds) inside (spread .duration)))))
+
+  -- each pass that the budget allows
+  begins-there : (k : ℕ) → k < windowsWithin (budgetFor seconds) s → endsAt s k ≡ false
+  unfolding windowsWithin
+  begins-there k inside = first-before (endsAt s) (budgetFor seconds) 0 k (omega arith) inside
+
+pub starts-grow : StartsGrow
+starts-grow s seconds k spread inside = grows-there s seconds spread k (begins-there s seconds spread k inside)
 
 pub budget-suffices : BudgetSuffices
 unfolding windowsWithin
@@ -69,3 +98,36 @@ budget-suffices s seconds spread =
       | inl passes ↦ passes
       | inr none ↦ ap (endsAt s) (none ∙ zero-add (budgetFor seconds)) ∙ ends-there s seconds spread
     ]
+
+-- ---- the passes that a track's rows are asked for
+module _ (s : Span) (spread : Spread s longestTrack) (long : brief s ≡ false) where
+  -- a track of a window and a hop has a first window
+  first-begins : endsAt s 0 ≡ false
+  unfolding endsAt brief
+  first-begins =
+      let window = s .window in
+      let clear-window = nonneg→clear window (spread .window .at-least-zero) in
+      let both = add binary64 window (s .hop) in
+      let all : T (le both (s .duration)) = not-lt→le (s .duration) both (le-left (s .duration) _ (spread .duration)) (clear→ordered both (add-clear binary64 window (s .hop) clear-window (spread .hop))) (subst (λ (b : Bool). T (not b)) (sym long) tt) in
+      let one : T (le window (s .duration)) = le-trans window both (s .duration) (add-right binary64 window (s .hop) (spread .window .in-format) clear-window (spread .hop)) all in
+      let at : window ≡ add binary64 (startOf s 0) window = sym (plusZero-add binary64 window (spread .window .in-format) clear-window) ∙ ap (λ (x : Float). add binary64 x window) (start-first s) in
+      same-test (not (le (add binary64 (startOf s 0) window) (s .duration))) false (λ t. absurd (T-not (le (add binary64 (startOf s 0) window) (s .duration)) t (subst (λ (x : Float). T (le x (s .duration))) at one))) (λ n. absurd n)
+
+  all-asked : windowsWithin (budgetFor longestTrack) s ≡ rowsAsked s
+  unfolding rowsAsked windowsOf
+  all-asked =
+      let passes = windowsWithin (budgetFor longestTrack) s in
+      let some : 0 < passes = elim (lt-or-ge 0 passes) [
+        | inl first ↦ first
+        | inr none ↦ let at : passes ≡ 0 = omega (arith, none) in absurd (subst T (sym (budget-suffices s longestTrack spread) ∙ ap (endsAt s) at ∙ first-begins) tt)
+      ] in
+      rw long (omega (arith, some))
+
+  pub asked-passes : Passes s (rowsAsked s)
+  asked-passes =
+      subst (Passes s) all-asked
+      (record {
+        begins = begins-there s longestTrack spread;
+        ends = budget-suffices s longestTrack spread;
+        grows = λ k inside. starts-grow s longestTrack k spread inside;
+      })

@@ -1,36 +1,28 @@
--- Laws of the run over windows, which the proof of `fill_estimates` cites: what a window leaves, then a law for each way out of a turn.
-use Prim.Native.Nat.{ℕ, _+_, _-_, _<_, _≤_}
-use mathlib.Core.Path.{_≡_, refl, sym, ap, subst, _∙_}
+-- Laws of the run over windows, which the proof of `fill_estimates` cites: what a window leaves, then the run's start, a turn and its end.
+use Prim.Native.Nat.{ℕ, _+_, _<_, _≤_}
+use mathlib.Core.Path.{_≡_, refl, sym, ap, subst, subst₂, _∙_}
 use mathlib.Core.Bool.{Bool, true, false}
 use native.Mathlib.Omega.{arith}
-use borrow.Author.Tests.{lt-ltb, le-ltb, not-false}
 use lib.Dec.{T}
 use lib.ListN.{length, length-append}
-use lib.Ieee.{Float, binary64, add, lt}
-use Rattle.laws.specs.First.{first}
+use lib.Ieee.{Float, binary64, add, le}
 use Rattle.laws.specs.Values.{plusZero}
-use Rattle.laws.proofs.First.{first-start, first-again, first-out, first-end}
 use Rattle.laws.proofs.Column.{Column, column-start, column-more}
 use Rattle.numbers.specs.Flags.{oneIf}
 use Rattle.keys.specs.Numbers.{keyNumber}
 use Rattle.windows.specs.Span.{startOf}
 use Rattle.gathering.specs.Gather.{Heard, heard}
 use Rattle.gathering.specs.inside.Ahead.{aheadOf, skippedTo, Known}
-use Rattle.timeline.specs.Estimates.{EstimateRows, holdingEstimates}
+use Rattle.timeline.specs.Estimates.{EstimateRows}
 use Rattle.timeline.specs.inside.Estimates.{estimateRows}
-use Rattle.windows.specs.Run.{estimateFrom, silent, estimatesBefore, stays, stuckAt}
-use Rattle.windows.specs.inside.Rows.{Written, wrote, windowWritten, swept, sweptTo, sweptOf, Ready}
+use Rattle.windows.specs.Run.{estimateFrom, silent, estimatesBefore}
+use Rattle.windows.specs.inside.Rows.{Written, wrote, windowWritten, windowsWritten, Ready}
 use Rattle.gathering.specs.declared.ahead.Ahead.{Ahead}
 use Rattle.windows.specs.declared.span.Span.{Span}
 use Rattle.timeline.specs.declared.estimate.Estimate.{Estimate}
-use Rattle.windows.specs.declared.run.Estimated.{Estimated}
-use Rattle.windows.specs.declared.run.Estimated.the-variants.{All, Stuck}
 use Rattle.windows.proofs.Found.{after-silent, after-heard}
 use Rattle.gathering.proofs.Known.{known-start, known-skip, known-later, known-heard}
-use Rattle.windows.proofs.Starts.{start-first, start-next, stuck-here}
-
-same-rows : {a b : EstimateRows} → a .centres ≡ b .centres → a .keys ≡ b .keys → a .confidences ≡ b .confidences → a .shapeless ≡ b .shapeless → a ≡ b
-same-rows p q r t = λ i. estimateRows (p i) (q i) (r i) (t i)
+use Rattle.windows.proofs.Starts.{start-first, start-next, start-upward}
 
 -- The n estimates of the windows before k stand in the lent rows.
 pub record Holds (s : Span) (h : Heard) (before now : EstimateRows) (k n : ℕ) : Type 0 where
@@ -41,7 +33,7 @@ pub record Holds (s : Span) (h : Heard) (before now : EstimateRows) (k n : ℕ) 
   pub confidences : Column (λ (e : Estimate). e .confidence) (estimatesBefore s h k) (before .confidences) (now .confidences)
   pub shapeless : Column (λ (e : Estimate). oneIf (e .shapeless)) (estimatesBefore s h k) (before .shapeless) (now .shapeless)
 
-module _ {s : Span} {h : Heard} {before now : EstimateRows} {k n windows : ℕ} (ready : Ready h before windows) (inside : k < windows) (holds : Holds s h before now k n) where
+module _ {s : Span} {h : Heard} {before now : EstimateRows} {k n windows : ℕ} (ready : Ready s h before windows) (inside : k < windows) (holds : Holds s h before now k n) where
   -- of what a window leaves, by whether it is silent
   left-by : (quiet : Bool) → silent s h (startOf s k) ≡ quiet → let w = windowWritten s h (startOf s k) n now in Holds s h before (w .rows) (k + 1) (w .count)
   unfolding windowWritten
@@ -70,16 +62,15 @@ module _ {s : Span} {h : Heard} {before now : EstimateRows} {k n windows : ℕ} 
   holds-next : {start : Float} {m : ℕ} {after : EstimateRows} → start ≡ startOf s k → wrote m after ≡ windowWritten s h start n now → Holds s h before after (k + 1) m
   holds-next at e = subst (λ (w : Written). Holds s h before (w .rows) (k + 1) (w .count)) (sym (e ∙ ap (λ (x : Float). windowWritten s h x n now) at)) (left-by (silent s h (startOf s k)) refl)
 
--- The run has come to window k: after no earlier one the start stayed, and the frames behind are before its start.
+-- The run has come to window k, and the frames behind are before its start.
 pub record Reached (s : Span) (h : Heard) (windows : ℕ) (before now : EstimateRows) (a : Ahead) (start : Float) (k n : ℕ) : Type 0 where
-  pub ready : Ready h before windows
+  pub ready : Ready s h before windows
   pub known : Known h a start
   pub at : start ≡ startOf s k
   pub upto : k ≤ windows
-  pub ahead : first (stuckAt s) (windows - k) k ≡ first (stuckAt s) windows 0
   pub holds : Holds s h before now k n
 
-pub reached-start : (s : Span) {h : Heard} {windows : ℕ} {before : EstimateRows} {a : Ahead} → Ready h before windows → a ≡ aheadOf (h .frames) (h .centres) → Reached s h windows before before a plusZero 0 0
+pub reached-start : (s : Span) {h : Heard} {windows : ℕ} {before : EstimateRows} {a : Ahead} → Ready s h before windows → a ≡ aheadOf (h .frames) (h .centres) → Reached s h windows before before a plusZero 0 0
 unfolding estimatesBefore
 reached-start s {h} {windows} {before} ready all =
     record {
@@ -87,7 +78,6 @@ reached-start s {h} {windows} {before} ready all =
       known = known-start h plusZero all;
       at = start-first s;
       upto = omega arith;
-      ahead = first-start (stuckAt s) windows;
       holds = record {
         count = refl;
         few = omega arith;
@@ -98,47 +88,29 @@ reached-start s {h} {windows} {before} ready all =
       };
     }
 
--- what is held where the run ends at k
-held-at : {now : EstimateRows} {s : Span} {h : Heard} {before : EstimateRows} {k n : ℕ} (answer : ℕ → Estimated) → Holds s h before now k n → let found = estimatesBefore s h k in swept (answer n) now ≡ swept (answer (length found)) (holdingEstimates found before)
-held-at {now} answer holds =
-    ap (λ (m : ℕ). swept (answer m) now) (holds .count) ∙ ap (swept _) (same-rows (holds .centres .here) (holds .keys .here) (holds .confidences .here) (holds .shapeless .here))
-
 module _ {s : Span} {h : Heard} {windows : ℕ} {before now : EstimateRows} {a : Ahead} {start : Float} {k n : ℕ} (reached : Reached s h windows before now a start k n) where
-  pub reached-end : windows ≤ k → swept (All n) now ≡ sweptOf s h windows before
-  unfolding sweptOf
+  pub reached-end : windows ≤ k → wrote n now ≡ windowsWritten s h windows before
+  unfolding windowsWritten
   reached-end all =
-      let found = estimatesBefore s h k in
-      let told : swept (All (length found)) (holdingEstimates found before) ≡ sweptTo s h windows k before = rw (le-ltb k windows all) in
-      held-at All (reached .holds)
-      ∙ told
-      ∙ ap (λ (j : ℕ). sweptTo s h windows j before) (first-end (stuckAt s) windows k (reached .ahead) all)
+      let last : k ≡ windows = omega (arith, all, reached .upto) in
+      let held = reached .holds in
+      (λ i. wrote (held .count i) (estimateRows (held .centres .here i) (held .keys .here i) (held .confidences .here i) (held .shapeless .here i)))
+      ∙ ap (λ (j : ℕ). windowsWritten s h j before) last
 
   -- in a turn, where the frames before the start were skipped
-  module _ (inside : k < windows) {next : Ahead} (skipped : next ≡ skippedTo a start (h .centres)) where
+  module _ {next : Ahead} (skipped : next ≡ skippedTo a start (h .centres)) where
     pub reached-known : Known h next start
     reached-known = known-skip (reached .known) skipped
 
-    -- and the window was written with those ahead
-    module _ {m : ℕ} {after : EstimateRows} (written : wrote m after ≡ windowWritten s (heard (next .frames) (h .centres) (h .values)) start n now) where
-      pub reached-held : Holds s h before after (k + 1) m
-      reached-held = holds-next (reached .ready) inside (reached .holds) (reached .at) (written ∙ ap (λ (x : Heard). windowWritten s x start n now) (known-heard reached-known))
+    onward : T (le start (add binary64 start (s .hop)))
+    onward = subst₂ (λ (x y : Float). T (le x y)) (sym (reached .at)) (sym (start-next s k (reached .at))) (start-upward s (reached .ready .onward) k)
 
-      pub reached-again : stays s start ≡ false → Reached s h windows before after next (add binary64 start (s .hop)) (k + 1) m
-      reached-again grows =
-          record {
-            ready = reached .ready;
-            known = known-later reached-known (subst T (sym (not-false (lt start (add binary64 start (s .hop))) grows)) tt);
-            at = start-next s k (reached .at);
-            upto = omega arith;
-            ahead = first-again (stuckAt s) windows k (reached .ahead) inside (stuck-here s k (reached .at) grows);
-            holds = reached-held;
-          }
-
-      pub reached-stuck : stays s start ≡ true → swept (Stuck m) after ≡ sweptOf s h windows before
-      unfolding sweptOf
-      reached-stuck stuck =
-          let found = estimatesBefore s h (k + 1) in
-          let told : swept (Stuck (length found)) (holdingEstimates found before) ≡ sweptTo s h windows k before = rw (lt-ltb k windows inside) in
-          held-at Stuck reached-held
-          ∙ told
-          ∙ ap (λ (j : ℕ). sweptTo s h windows j before) (first-out (stuckAt s) windows k (reached .ahead) inside (stuck-here s k (reached .at) stuck))
+    pub reached-again : {m : ℕ} {after : EstimateRows} → k < windows → wrote m after ≡ windowWritten s (heard (next .frames) (h .centres) (h .values)) start n now → Reached s h windows before after next (add binary64 start (s .hop)) (k + 1) m
+    reached-again inside written =
+        record {
+          ready = reached .ready;
+          known = known-later reached-known onward;
+          at = start-next s k (reached .at);
+          upto = omega (arith, inside);
+          holds = holds-next (reached .ready) inside (reached .holds) (reached .at) (written ∙ ap (λ (x : Heard). windowWritten s x start n now) (known-heard reached-known));
+        }

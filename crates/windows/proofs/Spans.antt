@@ -72,7 +72,7 @@ rounds-fit : {f : Format} {x : Float} {a c : ℕ} → Rounds f x a c → T (fits
 rounds-fit {f} {x} {a} {c} r = subst (λ (z : Float). T (fits f z)) (sym (r .is)) (round-fits f false a c)
 
 -- what is above +0 has the sign plus
-above-clear : (x : Float) → T (lt plusZero x) → T (clear x)
+pub above-clear : (x : Float) → T (lt plusZero x) → T (clear x)
 above-clear nan h = le-right plusZero nan (lt→le plusZero nan h)
 above-clear (inf true) h = absurd (lt-not-le plusZero (inf true) h (apart-le (inf true) plusZero tt tt))
 above-clear (inf false) h = tt

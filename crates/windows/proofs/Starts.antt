@@ -12,7 +12,6 @@ use Rattle.laws.proofs.Turns.{turns-last}
 use Rattle.laws.proofs.Nonneg.{add-clear}
 use Rattle.laws.proofs.Zero.{plusZero-held, add-right}
 use Rattle.windows.specs.Span.{startOf, overhangs, endsAt}
-use Rattle.windows.specs.Run.{stays, stuckAt}
 use Rattle.windows.specs.declared.span.Span.{Span}
 
 pub start-first : (s : Span) → plusZero ≡ startOf s 0
@@ -29,10 +28,6 @@ module _ (s : Span) (k : ℕ) {start : Float} (here : start ≡ startOf s k) whe
   unfolding endsAt
   ends-here t = sym (ap (overhangs s) here) ∙ t
 
-  pub stuck-here : {answer : Bool} → stays s start ≡ answer → stuckAt s k ≡ answer
-  unfolding stuckAt
-  stuck-here t = sym (ap (stays s) here) ∙ t
-
 -- what holds of +0 and is kept where the hop is added holds of every start
 pub start-each : (s : Span) (P : ℕ → Float → Type 0) → P 0 plusZero → ((k : ℕ) (x : Float) → P k x → P (k + 1) (add binary64 x (s .hop))) → (k : ℕ) → P k (startOf s k)
 start-each s P base step zero = subst (P 0) (start-first s) base
@@ -46,6 +41,6 @@ module _ (s : Span) (hop : T (clear (s .hop))) where
   pub start-clear : (k : ℕ) → T (clear (startOf s k))
   start-clear = start-each s (λ (k : ℕ) (x : Float). T (clear x)) tt (λ k x c. add-clear binary64 x (s .hop) c hop)
 
-  -- no start is before the one before it
+  -- no start is below the one before it
   pub start-upward : (k : ℕ) → T (le (startOf s k) (startOf s (k + 1)))
   start-upward k = subst (λ (x : Float). T (le (startOf s k) x)) (start-next s k refl) (add-right binary64 (startOf s k) (s .hop) (start-fits s k) (start-clear k) hop)

@@ -1,10 +1,9 @@
 -- The windows of a track in turn, and the estimates of those that are not silent, written from the Rust's `estimate_segments`. Definitions only.
-use Prim.Native.Nat.{ℕ, zero, suc, _+_, min}
-use mathlib.Core.Bool.{Bool, not, cond}
+use Prim.Native.Nat.{ℕ, zero, suc}
+use mathlib.Core.Bool.{Bool, cond}
 use mathlib.Core.List.{List, [], _∷_, _++_}
-use lib.Dec.{ltb, eqb}
-use lib.Ieee.{Float, binary64, add, lt}
-use Rattle.laws.specs.First.{first}
+use lib.Dec.{eqb}
+use lib.Ieee.{Float, binary64, add}
 use Rattle.laws.specs.Convert.{half}
 use Rattle.windows.specs.Span.{startOf, windowsOf}
 use Rattle.gathering.specs.Gather.{Heard, gatheredOf}
@@ -30,22 +29,6 @@ unfoldable pub estimatesBefore : Span → Heard → ℕ → List Estimate
 estimatesBefore s h zero = []
 estimatesBefore s h (suc k) = cond (silent s h (startOf s k)) (estimatesBefore s h k) (estimatesBefore s h k ++ (estimateFrom s h (startOf s k) ∷ []))
 
--- the start did not grow when the hop was added: number 10
-abbrev pub stays : Span → Float → Bool
-stays s start = not (lt start (add binary64 start (s .hop)))
-
--- that is so after window k
-unfoldable pub stuckAt : Span → ℕ → Bool
-stuckAt s k = stays s (startOf s k)
-
--- a start stays: number 10
-unfoldable pub halts : Span → Bool
-halts s = ltb (first (stuckAt s) (windowsOf s) 0) (windowsOf s)
-
--- the windows that are passed: all, or up to the first after which the start stays, that one too
-unfoldable pub windowsPassed : Span → ℕ
-windowsPassed s = min (first (stuckAt s) (windowsOf s) 0 + 1) (windowsOf s)
-
--- the estimates of a track
+-- the estimates of a track: of all its windows
 abbrev pub estimatesOf : Span → Heard → List Estimate
-estimatesOf s h = estimatesBefore s h (windowsPassed s)
+estimatesOf s h = estimatesBefore s h (windowsOf s)

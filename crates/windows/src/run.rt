@@ -1,11 +1,11 @@
 // The run over the windows: their estimates go into the lent rows, from the front.
 ghost use mathlib.Core.Path.{_≡_};
-ghost use Prim.Native.Nat.{_+_, _<_, _≤_, _^_};
+ghost use Prim.Native.Nat.{_<_, _≤_};
 ghost use lib.ListN.{length};
 ghost use Rattle.gathering.specs.Gather.{heard};
 ghost use Rattle.gathering.specs.inside.Ahead.{Known};
 ghost use Rattle.timeline.specs.Estimates.{lentEstimates};
-ghost use Rattle.windows.specs.inside.Rows.{windowWritten, wrote, swept, sweptOf, Ready};
+ghost use Rattle.windows.specs.inside.Rows.{windowWritten, windowsWritten, wrote, Ready};
 use crate::estimate::estimate_of;
 use crate::span::Span;
 use gathering::ahead::Ahead;
@@ -13,12 +13,6 @@ use gathering::ahead::look_ahead;
 use gathering::ahead::skip_frames;
 use gathering::gather::gather_window;
 use timeline::estimate::put_estimate;
-
-// What the run says: all windows with so many estimates, or a start that did not grow with so many before it.
-pub enum Estimated {
-    All(usize),
-    Stuck(usize),
-}
 
 // The estimate of the window from `start` goes into place n; returns how many there are then.
 fn write_window(
@@ -46,7 +40,7 @@ fn write_window(
     n + 1
 }
 
-// Every window in turn, up to the first after which the start did not grow.
+// Every window in turn; returns how many estimates there are.
 pub fn fill_estimates(
     span: Span,
     windows: usize,
@@ -57,9 +51,9 @@ pub fn fill_estimates(
     keys: &mut [u8],
     confidences: &mut [f32],
     shapeless: &mut [u8],
-) -> Estimated
-    requires { ⌜ Ready (heard frames (now centres) (now values)) (lentEstimates middles keys confidences shapeless) windows ⌝ }
-    ensures { λ r. ⌜ swept r (lentEstimates (middles .exit) (keys .exit) (confidences .exit) (shapeless .exit)) ≡ sweptOf span (heard frames (now (centres .entry)) (now (values .entry))) windows (lentEstimates (middles .entry) (keys .entry) (confidences .entry) (shapeless .entry)) ⌝ }
+) -> usize
+    requires { ⌜ Ready span (heard frames (now centres) (now values)) (lentEstimates middles keys confidences shapeless) windows ⌝ }
+    ensures { λ r. ⌜ wrote r (lentEstimates (middles .exit) (keys .exit) (confidences .exit) (shapeless .exit)) ≡ windowsWritten span (heard frames (now (centres .entry)) (now (values .entry))) windows (lentEstimates (middles .entry) (keys .entry) (confidences .entry) (shapeless .entry)) ⌝ }
 {
     let mut ahead = look_ahead(frames, centres);
     let mut start = 0.0;
@@ -79,12 +73,8 @@ pub fn fill_estimates(
             confidences,
             shapeless,
         );
-        let later = start + span.hop;
-        if !(start < later) {
-            return Estimated::Stuck(n);
-        }
-        start = later;
+        start = start + span.hop;
         k += 1;
     }
-    Estimated::All(n)
+    n
 }

@@ -62,8 +62,6 @@ pub enum Refusal {
         /// The frame's position, from 0.
         position: u64,
     },
-    /// 10: a window's start did not grow when the hop was added.
-    WindowStandsStill,
     /// 13: the engine is neither 0 nor 1. It is judged after 3, before settings with which nothing is analysed.
     #[non_exhaustive]
     UnknownEngine {
@@ -145,7 +143,6 @@ impl Refusal {
             7 => Self::SheetNotWellFormed,
             8 => Self::TooLittleRoom,
             9 => Self::FrameNotFinite { position },
-            10 => Self::WindowStandsStill,
             13 => Self::UnknownEngine { engine },
             _ => Self::Unknown { number },
         }
@@ -177,7 +174,6 @@ impl Refusal {
             Self::SheetNotWellFormed => 7,
             Self::TooLittleRoom => 8,
             Self::FrameNotFinite { .. } => 9,
-            Self::WindowStandsStill => 10,
             Self::UnknownEngine { .. } => 13,
             Self::CardWrongLength { .. } => CARD_WRONG_LENGTH,
             Self::CardUnknownLayout { .. } => CARD_UNKNOWN_LAYOUT,
@@ -206,7 +202,6 @@ impl Refusal {
             Self::FrameNotFinite { position } => {
                 format!("the frame at position {position} is loud, and its energy or chroma is not finite")
             }
-            Self::WindowStandsStill => "the start of a window did not grow by the hop".into(),
             Self::UnknownEngine { engine: Engine(number) } => {
                 format!("the engine, {number}, is neither 0 nor 1")
             }
@@ -243,7 +238,7 @@ mod tests {
 
     #[test]
     fn refusals_of_tracks_tell_their_number() {
-        for number in (1..=10).chain([13, 99]) {
+        for number in (1..=9).chain([13, 99]) {
             tells(Refusal::new(number, 0, &Settings::for_rate(8_000), 0), number, number != 99);
         }
     }

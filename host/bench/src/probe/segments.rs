@@ -40,11 +40,8 @@ pub struct ProbedSegments {
     pub segments: usize,
 }
 
-/// The outcome where some rows are fewer than the windows.
-pub const TOO_LITTLE_ROOM: u32 = 8;
-
-/// The outcome where the start of the window did not grow.
-pub const START_DID_NOT_GROW: u32 = 10;
+/// The outcome where some rows are fewer than the windows, or the hop is not above 0.
+pub const NOT_RUN: u32 = 8;
 
 #[expect(improper_ctypes, reason = "the settings are those of the C header, whatever is added to them")]
 unsafe extern "C" {

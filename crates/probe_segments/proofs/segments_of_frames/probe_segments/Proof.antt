@@ -3,7 +3,7 @@ use borrow.Author.Needs.{needs}
 use Rattle.timeline.specs.inside.Estimates.{estimateRows}
 use Rattle.timeline.specs.inside.Segments.{segmentRows}
 use Rattle.probe_segments.specs.Segments.{probedTrack}
-use Rattle.probe_segments.proofs.Segmenting.{little-room, locate-needs, located-so}
+use Rattle.probe_segments.proofs.Segmenting.{not-run, locate-needs, located-so}
 use Rattle.probe_segments.proofs.segments_of_frames.probe_segments.Statement.{statement}
 use Rattle.probe_segments.proofs.segments_of_frames.probe_segments.Tie as tie
 
@@ -19,8 +19,8 @@ estimate-room-requires c κs = search needs
 segment-room-requires : tie.Need-segment-room-requires
 segment-room-requires c κs = search needs
 
-fits-in-requires : tie.Need-fits-in-requires
-fits-in-requires c κs = search needs
+can-run-requires : tie.Need-can-run-requires
+can-run-requires c κs = search needs
 
 same-length : tie.Need-same-length
 same-length c = search needs
@@ -48,13 +48,13 @@ same-length-8 c = search needs
 
 returns : tie.Need-returns
 returns c =
-    let fit = c .before in
-    let room = fit .before in
+    let test = c .before in
+    let room = test .before in
     let lent = room .before .before .before .before .before in
     let asked = lent .before .before .before .before .before in
     let span = asked .before in
     let args = span .before .before .before .before .before .before .before .before .before .before .args in
-    little-room (args .settings) (args .samples) (probedTrack (args .settings) (args .samples) (args .key) (args .confidence)) (args .centres .now) (args .values .now) (estimateRows (args .middles .now) (args .numbers .now) (args .certainties .now) (args .shapeless .now)) (segmentRows (args .starts .now) (args .ends .now) (args .keys .now) (args .confidences .now)) (span .span-of .ensures) (asked .rows-asked .ensures) (lent .estimate-room .ensures) (room .segment-room .ensures) (fit .fits-in .ensures) (c .if1 .taken)
+    not-run (args .settings) (args .samples) (probedTrack (args .settings) (args .samples) (args .key) (args .confidence)) (args .centres .now) (args .values .now) (estimateRows (args .middles .now) (args .numbers .now) (args .certainties .now) (args .shapeless .now)) (segmentRows (args .starts .now) (args .ends .now) (args .keys .now) (args .confidences .now)) (span .span-of .ensures) (asked .rows-asked .ensures) (lent .estimate-room .ensures) (room .segment-room .ensures) (test .can-run .ensures) (c .if1 .taken)
 
 probed-track-requires : tie.Need-probed-track-requires
 probed-track-requires c κs = search needs
@@ -66,16 +66,13 @@ locate-segments-requires : tie.Need-locate-segments-requires
 locate-segments-requires c κs =
     let few = c .before .before .before .before .before .before .before .before in
     let guard = few .before .before in
-    let fit = guard .before in
-    let room = fit .before in
+    let test = guard .before in
+    let room = test .before in
     let lent = room .before .before .before .before .before in
     let asked = lent .before .before .before .before .before in
     let span = asked .before in
     let args = span .before .before .before .before .before .before .before .before .before .before .args in
-    locate-needs (args .settings) (args .samples) (probedTrack (args .settings) (args .samples) (args .key) (args .confidence)) (args .centres .now) (args .values .now) (estimateRows (args .middles .now) (args .numbers .now) (args .certainties .now) (args .shapeless .now)) (segmentRows (args .starts .now) (args .ends .now) (args .keys .now) (args .confidences .now)) (span .span-of .ensures) (asked .rows-asked .ensures) (lent .estimate-room .ensures) (room .segment-room .ensures) (fit .fits-in .ensures) (guard .if1 .left) (few .fewer .ensures)
-
-counted-by-requires : tie.Need-counted-by-requires
-counted-by-requires c κs = search needs
+    locate-needs (args .settings) (args .samples) (probedTrack (args .settings) (args .samples) (args .key) (args .confidence)) (args .centres .now) (args .values .now) (estimateRows (args .middles .now) (args .numbers .now) (args .certainties .now) (args .shapeless .now)) (segmentRows (args .starts .now) (args .ends .now) (args .keys .now) (args .confidences .now)) (span .span-of .ensures) (asked .rows-asked .ensures) (lent .estimate-room .ensures) (room .segment-room .ensures) (test .can-run .ensures) (guard .if1 .left) (few .fewer .ensures)
 
 same-length-9 : tie.Need-same-length-9
 same-length-9 c = search needs
@@ -103,17 +100,17 @@ same-length-16 c = search needs
 
 returns-2 : tie.Need-returns-2
 returns-2 c =
-    let locate = c .before .before .before .before .before .before .before .before .before .before .before .before .before .before .before .before .before in
+    let locate = c .before .before .before .before .before .before .before .before .before .before .before .before .before .before .before .before in
     let few = locate .before .before .before .before .before .before .before .before .before in
     let track = few .before in
     let guard = track .before in
-    let fit = guard .before in
-    let room = fit .before in
+    let test = guard .before in
+    let room = test .before in
     let lent = room .before .before .before .before .before in
     let asked = lent .before .before .before .before .before in
     let span = asked .before in
     let args = span .before .before .before .before .before .before .before .before .before .before .args in
-    located-so (args .settings) (args .samples) (probedTrack (args .settings) (args .samples) (args .key) (args .confidence)) (args .centres .now) (args .values .now) (estimateRows (args .middles .now) (args .numbers .now) (args .certainties .now) (args .shapeless .now)) (segmentRows (args .starts .now) (args .ends .now) (args .keys .now) (args .confidences .now)) (span .span-of .ensures) (asked .rows-asked .ensures) (lent .estimate-room .ensures) (room .segment-room .ensures) (fit .fits-in .ensures) (guard .if1 .left) (few .fewer .ensures) (track .probed-track .ensures) (locate .locate-segments .ensures) (c .counted-by .ensures)
+    located-so (args .settings) (args .samples) (probedTrack (args .settings) (args .samples) (args .key) (args .confidence)) (args .centres .now) (args .values .now) (estimateRows (args .middles .now) (args .numbers .now) (args .certainties .now) (args .shapeless .now)) (segmentRows (args .starts .now) (args .ends .now) (args .keys .now) (args .confidences .now)) (span .span-of .ensures) (asked .rows-asked .ensures) (lent .estimate-room .ensures) (room .segment-room .ensures) (test .can-run .ensures) (guard .if1 .left) (few .fewer .ensures) (track .probed-track .ensures) (locate .locate-segments .ensures)
 
 pub probe-segments-spec : {M : Type 1} → statement M
 probe-segments-spec =
@@ -123,7 +120,7 @@ probe-segments-spec =
     rows-asked-requires
     estimate-room-requires
     segment-room-requires
-    fits-in-requires
+    can-run-requires
     same-length
     same-length-2
     same-length-3
@@ -136,7 +133,6 @@ probe-segments-spec =
     probed-track-requires
     fewer-requires
     locate-segments-requires
-    counted-by-requires
     same-length-9
     same-length-10
     same-length-11

@@ -1,9 +1,9 @@
--- A law for each answer of the run over the windows.
+-- What the run over the windows leaves is filled into segments.
 use borrow.Author.Needs.{needs}
 use Rattle.timeline.specs.inside.Estimates.{estimateRows}
 use Rattle.timeline.specs.inside.Segments.{segmentRows}
 use Rattle.gathering.specs.Gather.{heard}
-use Rattle.segments.proofs.Locates.{prepared-run, passed-needs, halted, told-all}
+use Rattle.segments.proofs.Locates.{prepared-run, run-needs, located-so}
 use Rattle.segments.proofs.track.locate_segments.Statement.{statement}
 use Rattle.segments.proofs.track.locate_segments.Tie as tie
 
@@ -13,23 +13,15 @@ count-windows-requires c κs = search needs
 fill-estimates-requires : tie.Need-fill-estimates-requires
 fill-estimates-requires c κs =
     let count = c .before .before .before .before in
-    let start = count .before .before .before .before .before .before .before .before .before .before in
-    prepared-run (count .count-windows .ensures) (start .pre)
-
-enum-known-run : tie.Need-enum-known-run
-enum-known-run c = search needs
-
-enum-known-run-2 : tie.Need-enum-known-run-2
-enum-known-run-2 c = search needs
+    prepared-run (count .count-windows .ensures) (count .before .before .before .before .before .before .before .before .before .before .pre)
 
 fill-segments-requires : tie.Need-fill-segments-requires
 fill-segments-requires c κs =
-    let arm = c .before .before .before .before .before .before .before in
-    let run = arm .before .before .before .before .before .before .before .before .before .before .before in
+    let run = c .before .before .before .before .before .before .before .before .before .before .before .before .before .before .before in
     let count = run .before .before .before .before .before in
     let start = count .before .before .before .before .before .before .before .before .before .before in
     let args = start .args in
-    passed-needs (args .span) (heard (args .frames) (args .centres .now) (args .values .now)) (estimateRows (args .middles .now) (args .numbers .now) (args .certainties .now) (args .shapeless .now)) (count .count-windows .ensures) (segmentRows (args .starts .now) (args .ends .now) (args .keys .now) (args .confidences .now)) (start .pre) (arm .before .run2 .given .1) (run .fill-estimates .ensures)
+    run-needs (args .span) (heard (args .frames) (args .centres .now) (args .values .now)) (estimateRows (args .middles .now) (args .numbers .now) (args .certainties .now) (args .shapeless .now)) (count .count-windows .ensures) (run .fill-estimates .ensures) (segmentRows (args .starts .now) (args .ends .now) (args .keys .now) (args .confidences .now)) (start .pre)
 
 same-length : tie.Need-same-length
 same-length c = search needs
@@ -43,13 +35,6 @@ same-length-3 c = search needs
 same-length-4 : tie.Need-same-length-4
 same-length-4 c = search needs
 
-returns : tie.Need-returns
-returns c =
-    let run = c .before .before .before .before .before .before .before .before .before .before .before in
-    let count = run .before .before .before .before .before in
-    let args = count .before .before .before .before .before .before .before .before .before .before .args in
-    halted (args .span) (heard (args .frames) (args .centres .now) (args .values .now)) (estimateRows (args .middles .now) (args .numbers .now) (args .certainties .now) (args .shapeless .now)) (count .count-windows .ensures) (args .track) (segmentRows (args .starts .now) (args .ends .now) (args .keys .now) (args .confidences .now)) (c .before .run .given .1) (run .fill-estimates .ensures)
-
 same-length-5 : tie.Need-same-length-5
 same-length-5 c = search needs
 
@@ -62,26 +47,13 @@ same-length-7 c = search needs
 same-length-8 : tie.Need-same-length-8
 same-length-8 c = search needs
 
-same-length-9 : tie.Need-same-length-9
-same-length-9 c = search needs
-
-same-length-10 : tie.Need-same-length-10
-same-length-10 c = search needs
-
-same-length-11 : tie.Need-same-length-11
-same-length-11 c = search needs
-
-same-length-12 : tie.Need-same-length-12
-same-length-12 c = search needs
-
-returns-2 : tie.Need-returns-2
-returns-2 c =
+returns : tie.Need-returns
+returns c =
     let fill = c .before .before .before .before .before .before .before .before in
-    let arm = fill .before .before .before .before .before .before .before .before in
-    let run = arm .before .before .before .before .before .before .before .before .before .before .before in
+    let run = fill .before .before .before .before .before .before .before .before .before .before .before .before .before .before .before .before in
     let count = run .before .before .before .before .before in
     let args = count .before .before .before .before .before .before .before .before .before .before .args in
-    told-all (args .span) (heard (args .frames) (args .centres .now) (args .values .now)) (estimateRows (args .middles .now) (args .numbers .now) (args .certainties .now) (args .shapeless .now)) (count .count-windows .ensures) (args .track) (segmentRows (args .starts .now) (args .ends .now) (args .keys .now) (args .confidences .now)) (arm .before .run2 .given .1) (run .fill-estimates .ensures) (fill .fill-segments .ensures)
+    located-so (args .span) (heard (args .frames) (args .centres .now) (args .values .now)) (estimateRows (args .middles .now) (args .numbers .now) (args .certainties .now) (args .shapeless .now)) (count .count-windows .ensures) (run .fill-estimates .ensures) (args .track) (segmentRows (args .starts .now) (args .ends .now) (args .keys .now) (args .confidences .now)) (fill .fill-segments .ensures)
 
 pub locate-segments-spec : {M : Type 1} → statement M
 locate-segments-spec =
@@ -89,20 +61,13 @@ locate-segments-spec =
     (tie.spec
     count-windows-requires
     fill-estimates-requires
-    enum-known-run
-    enum-known-run-2
     fill-segments-requires
     same-length
     same-length-2
     same-length-3
     same-length-4
-    returns
     same-length-5
     same-length-6
     same-length-7
     same-length-8
-    same-length-9
-    same-length-10
-    same-length-11
-    same-length-12
-    returns-2)
+    returns)

@@ -1,12 +1,12 @@
--- Each way out of a turn is a law of `Runs`.
-use Prim.Native.Nat.{_-_, _<_}
+-- The run's start, a turn and its end are laws of `Runs`.
+use Prim.Native.Nat.{_-_}
 use native.Mathlib.Omega.{arith}
 use borrow.Author.Needs.{needs}
 use lib.Ieee.{ofBits}
 use Rattle.gathering.specs.Gather.{heard}
 use Rattle.timeline.specs.inside.Estimates.{estimateRows}
 use Rattle.gathering.proofs.Known.{known-own}
-use Rattle.windows.proofs.Runs.{Reached, reached-known, reached-held, reached-start, reached-again, reached-stuck, reached-end}
+use Rattle.windows.proofs.Runs.{Reached, reached-known, reached-start, reached-again, reached-end}
 use Rattle.windows.proofs.run.fill_estimates.Statement.{statement}
 use Rattle.windows.proofs.run.fill_estimates.Tie as tie
 
@@ -42,7 +42,7 @@ write-window-requires c κs =
     let skip = c .before .before .before .before in
     let r = skip .before .before .loop .inv in
     let inside = skip .before .loop-test .taken in
-    let known = reached-known r inside (skip .skip-frames .ensures) in (
+    let known = reached-known r (skip .skip-frames .ensures) in (
       omega (arith, known .count, r .ready .timed),
       omega (arith, known .count, r .ready .valued),
       known-own known,
@@ -52,69 +52,34 @@ write-window-requires c κs =
       omega (arith, inside, r .holds .few, r .holds .shapeless .long, r .ready .shapeless),
     )
 
--- of a window that was written
-module _ (c : tie.After-write-window Inv-loop μ-loop) where
-  abbrev skip : tie.After-skip-frames Inv-loop μ-loop
-  skip = c .before .before .before .before .before
-
-  abbrev turn : tie.At-loop Inv-loop μ-loop
-  turn = skip .before .before
-
-  abbrev inside : turn .loop .k < turn .before .before .before .before .before .before .before .args .windows
-  inside = skip .before .loop-test .taken
-
-same-length : tie.Need-same-length Inv-loop μ-loop
-same-length c =
-    let written = c .before .before .before .before .before .before .before .before .before .before in
-    reached-held (turn written .loop .inv) (inside written) (skip written .skip-frames .ensures) (written .write-window .ensures) .centres .long
-
-same-length-2 : tie.Need-same-length-2 Inv-loop μ-loop
-same-length-2 c =
-    let written = c .before .before .before .before .before .before .before .before .before .before in
-    reached-held (turn written .loop .inv) (inside written) (skip written .skip-frames .ensures) (written .write-window .ensures) .keys .long
-
-same-length-3 : tie.Need-same-length-3 Inv-loop μ-loop
-same-length-3 c =
-    let written = c .before .before .before .before .before .before .before .before .before .before in
-    reached-held (turn written .loop .inv) (inside written) (skip written .skip-frames .ensures) (written .write-window .ensures) .confidences .long
-
-same-length-4 : tie.Need-same-length-4 Inv-loop μ-loop
-same-length-4 c =
-    let written = c .before .before .before .before .before .before .before .before .before .before in
-    reached-held (turn written .loop .inv) (inside written) (skip written .skip-frames .ensures) (written .write-window .ensures) .shapeless .long
-
-returns : tie.Need-returns Inv-loop μ-loop
-returns c =
-    let written = c .before .before .before .before .before .before .before .before .before .before in
-    reached-stuck (turn written .loop .inv) (inside written) (skip written .skip-frames .ensures) (written .write-window .ensures) (c .if1 .taken)
-
 add-k : tie.Need-add-k Inv-loop μ-loop
 add-k c =
-    let written = c .before .before .before .before .before .before .before .before .before .before in
-    omega (arith, inside written, turn written .before .before .before .before .before .before .before .fits)
+    let turn = c .before .before .before .before .before .before .before .before .before .before .before .before .before .before .before in
+    omega (arith, turn .loop-test .taken, turn .before .before .before .before .before .before .before .before .fits)
 
 loop-less : tie.Need-loop-less Inv-loop μ-loop
 loop-less c = search needs
 
 loop-again : tie.Need-loop-again Inv-loop μ-loop
 loop-again c =
-    let written = c .before .before .before .before .before .before .before .before .before .before in
-    reached-again (turn written .loop .inv) (inside written) (skip written .skip-frames .ensures) (written .write-window .ensures) (c .if1 .left)
+    let written = c .before .before .before .before .before .before .before .before .before in
+    let skip = written .before .before .before .before .before in
+    reached-again (skip .before .before .loop .inv) (skip .skip-frames .ensures) (skip .before .loop-test .taken) (written .write-window .ensures)
 
-same-length-5 : tie.Need-same-length-5 Inv-loop μ-loop
-same-length-5 c = c .before .loop .inv .holds .centres .long
+same-length : tie.Need-same-length Inv-loop μ-loop
+same-length c = c .before .loop .inv .holds .centres .long
 
-same-length-6 : tie.Need-same-length-6 Inv-loop μ-loop
-same-length-6 c = c .before .loop .inv .holds .keys .long
+same-length-2 : tie.Need-same-length-2 Inv-loop μ-loop
+same-length-2 c = c .before .loop .inv .holds .keys .long
 
-same-length-7 : tie.Need-same-length-7 Inv-loop μ-loop
-same-length-7 c = c .before .loop .inv .holds .confidences .long
+same-length-3 : tie.Need-same-length-3 Inv-loop μ-loop
+same-length-3 c = c .before .loop .inv .holds .confidences .long
 
-same-length-8 : tie.Need-same-length-8 Inv-loop μ-loop
-same-length-8 c = c .before .loop .inv .holds .shapeless .long
+same-length-4 : tie.Need-same-length-4 Inv-loop μ-loop
+same-length-4 c = c .before .loop .inv .holds .shapeless .long
 
-returns-2 : tie.Need-returns-2 Inv-loop μ-loop
-returns-2 c = reached-end (c .before .loop .inv) (c .loop-test .left)
+returns : tie.Need-returns Inv-loop μ-loop
+returns c = reached-end (c .before .loop .inv) (c .loop-test .left)
 
 pub fill-estimates-spec : {M : Type 1} → statement M
 fill-estimates-spec =
@@ -126,16 +91,11 @@ fill-estimates-spec =
     loop-holds
     skip-frames-requires
     write-window-requires
+    add-k
+    loop-less
+    loop-again
     same-length
     same-length-2
     same-length-3
     same-length-4
-    returns
-    add-k
-    loop-less
-    loop-again
-    same-length-5
-    same-length-6
-    same-length-7
-    same-length-8
-    returns-2)
+    returns)

@@ -1,4 +1,5 @@
 //! Tracks for segments, from a seed.
+use crate::packed::LONGEST;
 use crate::windows::{duration, is_brief, rows_asked};
 use bench::inputs::chromas::{Kind, plain_kinds_from};
 use bench::inputs::dice::Dice;
@@ -139,6 +140,18 @@ impl Tracks {
     pub fn irregular(&mut self) -> Track {
         let (rate, hop) = (self.dice.one_of(&SHAPES).0, self.dice.one_of(&HOPS));
         let samples = self.dice.below(60 * rate as usize);
+        self.anywhere(rate, samples, hop)
+    }
+
+    /// The same on a track as long as the longest or a few samples shorter, with hops from half a second to one.
+    pub fn longest(&mut self) -> Track {
+        let (rate, any) = (self.dice.one_of(&SHAPES).0, 0.5 + self.dice.unit() / 2.0);
+        let hop = self.dice.one_of(&[0.5, 0.5_f32.next_up(), any, any]);
+        let samples = LONGEST as usize * rate as usize - self.dice.below(4);
+        self.anywhere(rate, samples, hop)
+    }
+
+    fn anywhere(&mut self, rate: u32, samples: usize, hop: f32) -> Track {
         let seconds = samples as f64 / f64::from(rate);
         let window = self.window(seconds);
         let count = self.dice.below(MOST_FRAMES + 1);
@@ -184,7 +197,7 @@ impl Tracks {
     }
 
     /// A hop that is not above 0, on a track of a window at least.
-    pub fn stuck(&mut self) -> Track {
+    pub fn without_hop(&mut self) -> Track {
         let mut track = self.irregular();
         while duration(&track) < track.settings.local_window_seconds.into() {
             track = self.irregular();

@@ -5,13 +5,13 @@ use crate::groups::{Compared, Groups, compared_exactly};
 use crate::segment_lists::{put_joined, untouched_segments};
 use crate::segment_tracks::{Asked, Tracks};
 use crate::windows::{duration, is_brief, rows_asked};
+use bench::oracle::key_lime::KeySegment;
 use bench::oracle::key_lime::expose::{
     Estimate, estimate_segments, estimated_chromas, estimates, key_from_index,
 };
-use bench::oracle::key_lime::{KeyConfig, KeySegment};
 use bench::oracle::shapes::is_shapeless;
 use bench::oracle::{config, frames};
-use bench::probe::segments::{Cutting, ProbedSegments, START_DID_NOT_GROW, TOO_LITTLE_ROOM, Track, segments};
+use bench::probe::segments::{Cutting, NOT_RUN, ProbedSegments, Track, segments};
 use ulyptesh::calls::{EstimateRows, SegmentRows};
 
 /// Streams of the seed from here on are the segments'.
@@ -52,21 +52,12 @@ fn ours(asked: Asked) -> Left {
     (answer, (found, left))
 }
 
-/// The track's own; where the hop is not above 0 the window loop ends behind the first window, at a NaN.
-fn loop_config(track: &Track) -> KeyConfig {
-    let mut config = config(&track.settings);
-    if !grows(track) {
-        config.local_hop_seconds = f32::NAN;
-    }
-    config
-}
-
 /// The oracle's estimates.
 pub fn their_estimates(track: &Track) -> Vec<Estimate> {
     if is_brief(track) {
         return vec![];
     }
-    estimates(&frames(track), duration(track), loop_config(track))
+    estimates(&frames(track), duration(track), config(&track.settings))
 }
 
 /// Whether the chroma that was classified for each estimate has no shape.
@@ -74,13 +65,8 @@ pub fn their_shapeless(track: &Track) -> Vec<bool> {
     if is_brief(track) {
         return vec![];
     }
-    let chromas = estimated_chromas(&frames(track), duration(track), loop_config(track));
+    let chromas = estimated_chromas(&frames(track), duration(track), config(&track.settings));
     chromas.iter().map(is_shapeless).collect()
-}
-
-/// Whether the start of the window grows: no hop of these tracks is too small for that.
-fn grows(track: &Track) -> bool {
-    track.settings.local_hop_seconds > 0.0
 }
 
 fn their_segments(track: &Track) -> Vec<KeySegment> {
@@ -102,14 +88,12 @@ fn answer(outcome: u32, estimates: usize, segments: usize) -> ProbedSegments {
 fn theirs(asked: Asked) -> Left {
     let Asked { track, room } = asked;
     let mut rows = untouched(room);
-    if room.into_iter().any(|lent| lent < rows_asked(&track)) {
-        return (answer(TOO_LITTLE_ROOM, 0, 0), rows);
+    let goes_on = track.settings.local_hop_seconds > 0.0;
+    if !goes_on || room.into_iter().any(|lent| lent < rows_asked(&track)) {
+        return (answer(NOT_RUN, 0, 0), rows);
     }
     let found = their_estimates(&track);
     put_estimates(&found, &their_shapeless(&track), &mut rows.0);
-    if !is_brief(&track) && !grows(&track) {
-        return (answer(START_DID_NOT_GROW, found.len(), 0), rows);
-    }
     let left = their_segments(&track);
     put_joined(&left, their_groups(&track, &found), &mut rows.1);
     (answer(0, found.len(), left.len()), rows)
@@ -118,7 +102,7 @@ fn theirs(asked: Asked) -> Left {
 type Maker = fn(&mut Tracks) -> Asked;
 
 /// Name, how many tracks, and how one is made.
-const KINDS: [(&str, usize, Maker); 6] = [
+const KINDS: [(&str, usize, Maker); 7] = [
     ("centres as the library makes them", 5_000, |tracks| {
         let track = tracks.regular();
         tracks.with_room(track)
@@ -135,12 +119,16 @@ const KINDS: [(&str, usize, Maker); 6] = [
         let track = tracks.regular();
         tracks.without_room(track)
     }),
-    ("a start that does not grow", 200, |tracks| {
-        let track = tracks.stuck();
+    ("a hop that is not above 0", 200, |tracks| {
+        let track = tracks.without_hop();
         tracks.with_room(track)
     }),
     ("centres in order", 4_000, |tracks| {
         let track = tracks.in_order();
+        tracks.with_room(track)
+    }),
+    ("tracks of 14,400 s", 150, |tracks| {
+        let track = tracks.longest();
         tracks.with_room(track)
     }),
 ];

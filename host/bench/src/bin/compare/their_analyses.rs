@@ -47,8 +47,7 @@ fn track_of(asked: &Asked, heard: &Heard) -> Track {
     Track { centres, values: heard.frames.iter().map(|frame| frame.values).collect(), ..asked.track() }
 }
 
-/// What the oracle answers and leaves behind the frames. Number 10 has no place here: a start is below 14,400 s,
-/// and grows when half a second or more is added.
+/// What the oracle answers and leaves behind the frames.
 fn their_answer(asked: &Asked, lent: &mut Buffers) -> AnalyseResult {
     let heard = heard(&asked.call);
     let frames = heard.frames.len();
