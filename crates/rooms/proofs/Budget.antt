@@ -15,7 +15,7 @@ use Rattle.windows.specs.Span.{spanOf}
 use Rattle.windows.specs.Rising.{Timed}
 use Rattle.windows.specs.Budget.{Spread}
 use Rattle.windows.proofs.Spans.{duration-under, span-timed}
-use Rattle.windows.proofs.Budget.{asked-passes}
+use Rattle.windows.proofs.Budget.{asked-passes, one-asked}
 use Rattle.rooms.specs.Room.{hasty}
 use Rattle.rooms.specs.Budget.{LoopEndsItself}
 
@@ -46,7 +46,6 @@ module _ (c : Call) (typed : Typed (c .settings)) {crowded : Bool} {positions : 
   passed-spread =
       record {
         window = passed-timed .window;
-        hop = passed-timed .hop;
         half-second = unhasty;
         duration = duration-under (c .settings) (length (c .samples)) (p .worthwhile .rated) (p .slow) (p .short);
         exact = lit< tt;
@@ -54,4 +53,5 @@ module _ (c : Call) (typed : Typed (c .settings)) {crowded : Bool} {positions : 
 
 pub loop-ends-itself : LoopEndsItself
 loop-ends-itself c crowded positions typed e =
-    asked-passes (spanOf (c .settings) (length (c .samples))) (passed-spread c typed (passed c (hasty (c .settings)) crowded positions e))
+    let s = spanOf (c .settings) (length (c .samples)) in
+    record { long = asked-passes s (passed-spread c typed (passed c (hasty (c .settings)) crowded positions e)); short = one-asked s }

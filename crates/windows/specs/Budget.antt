@@ -4,15 +4,14 @@ use mathlib.Core.Bool.{true, false}
 use Prim.Native.Nat.{ℕ, _+_, _^_, _<_, _≤_}
 use lib.Dec.{T}
 use lib.Ieee.{binary64, lt, le}
-use Rattle.laws.specs.Values.{clear, Held}
+use Rattle.laws.specs.Values.{Held}
 use Rattle.laws.specs.Convert.{parts}
 use Rattle.windows.specs.Span.{startOf, endsAt, budgetFor, windowsWithin}
 use Rattle.windows.specs.declared.span.Span.{Span}
 
--- what the checks leave: a window and a hop from 0 up, the hop half a second at least, and a duration of so many seconds at most
+-- what the checks leave: a window from 0 up, a hop of half a second at least, and a duration of so many seconds at most
 pub record Spread (s : Span) (seconds : ℕ) : Type 0 where
   pub window : Held binary64 (s .window)
-  pub hop : T (clear (s .hop))
   pub half-second : T (le (parts binary64 1 1) (s .hop))
   pub duration : T (le (s .duration) (parts binary64 0 seconds))
   pub exact : budgetFor seconds < 2 ^ 53

@@ -1,7 +1,7 @@
 //! The local windows of a track, and the rows that are asked for them.
 use bench::probe::segments::Track;
 
-/// The library counts no more windows: two a second of the longest track, and one.
+/// No more windows are counted: two a second of the longest track, and one. Only a call that is refused has more.
 const MOST_WINDOWS: usize = 28_801;
 
 pub fn duration(track: &Track) -> f64 {
