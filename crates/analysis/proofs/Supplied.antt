@@ -6,6 +6,7 @@ use borrow.Author.Tests.{ltb-false}
 use lib.ListN.{length}
 use Rattle.laws.specs.Table.{anyOf}
 use Rattle.laws.proofs.Table.{none-of}
+use Rattle.laws.proofs.Zero.{above-clear}
 use Rattle.calls.specs.Call.{Call, positionsOf}
 use Rattle.calls.specs.Rows.{roomIn}
 use Rattle.checks.specs.declared.Checked.the-variants.{Go}
@@ -15,7 +16,7 @@ use Rattle.timeline.specs.Estimates.{estimateRoom}
 use Rattle.timeline.specs.Segments.{segmentRoom}
 use Rattle.timeline.proofs.Rooms.{room-within, estimates-within}
 use Rattle.windows.specs.Span.{spanOf, windowsOf, rowsAsked}
-use Rattle.windows.proofs.Spans.{windows-asked, some-asked, above-clear}
+use Rattle.windows.proofs.Spans.{windows-asked, some-asked}
 use Rattle.rooms.specs.Lent.{Lent}
 use Rattle.rooms.specs.Room.{hasty, tooSmall}
 use Rattle.positions.specs.inside.Supplied.{Supplied}

@@ -1,4 +1,4 @@
--- +0: nothing with the sign clear is below it, and adding it or taking it away changes no value that the format holds. So a sum is no less than
+-- +0: nothing with the sign clear is below it, all above it has that sign, and adding it or taking it away changes no value that the format holds. So a sum is no less than
 -- either part, and a difference no more than what it was taken from.
 use mathlib.Core.Path.{_≡_, refl, sym, ap, _∙_, subst, subst₂}
 use Prim.Native.Nat.{ℕ, _+_, _-_, _*_, _≤_, _<_, zero-le}
@@ -7,7 +7,7 @@ use native.Mathlib.Omega.{arith}
 use mathlib.Core.Bool.{Bool, true, false, not, _&&_, Bool·beq, cond}
 use lib.Dec.{T, ltb, nltb→le}
 use lib.Arith.{le→nltb}
-use lib.Ieee.{Float, nan, inf, fin, Format, binary32, binary64, up, down, round, sum, add, sub, neg, div, eq, le, fits}
+use lib.Ieee.{Float, nan, inf, fin, Format, binary32, binary64, up, down, round, sum, add, sub, neg, div, eq, lt, le, fits}
 use lib.Ieee.Fits.{down-pos, neg-fits}
 use lib.Ieee.Bits.{is-false}
 use lib.Ieee.Scale.{finite}
@@ -15,7 +15,7 @@ use borrow.Author.Tests.{le-ltb}
 use lib.Ieee.Positive.{num, den, positive}
 use Rattle.laws.specs.Values.{clear, nonneg, plusZero, minusZero, one, Held}
 use Rattle.laws.proofs.Cases.{by-test}
-use Rattle.laws.proofs.Order.{le-refl}
+use Rattle.laws.proofs.Order.{lt→le, lt-not-le, le-right, le-refl, apart-le}
 use Rattle.laws.proofs.Signs.{neg-round}
 use Rattle.laws.proofs.Swap.{add-swap}
 use Rattle.laws.proofs.Nonneg.{nonneg→clear, clear→ordered, nonneg→ordered, greatest, cross→le, add-rounds, add-mono, add-inf-left, add-inf-right, sub-rounds, sub-mono, positive→nonneg, nonneg-under, rounds-mono, div-rounds, le→cross}
@@ -30,6 +30,13 @@ plusZero-least nan c = absurd c
 plusZero-least (inf true) c = absurd c
 plusZero-least (inf false) c = greatest plusZero tt
 plusZero-least (fin s m e) c = cross→le plusZero (fin s m e) tt c (subst (λ (z : ℕ). z ≤ num (fin s m e) * 1) (sym (zero-mul (den (fin s m e)))) zero-le)
+
+pub above-clear : (x : Float) → T (lt plusZero x) → T (clear x)
+above-clear nan h = le-right plusZero nan (lt→le plusZero nan h)
+above-clear (inf true) h = absurd (lt-not-le plusZero (inf true) h (apart-le (inf true) plusZero tt tt))
+above-clear (inf false) h = tt
+above-clear (fin true m e) h = absurd (lt-not-le plusZero (fin true m e) h (apart-le (fin true m e) plusZero tt tt))
+above-clear (fin false m e) h = tt
 
 -- ---- x + 0, 0 + x and x - 0
 pub add-plusZero : (f : Format) (x : Float) → T (fits f x) → T (clear x) → add f x plusZero ≡ x

@@ -11,6 +11,7 @@ use lib.Ieee.{Float, lt}
 use Rattle.laws.specs.Values.{plusZero, clear}
 use Rattle.laws.proofs.Every.{each}
 use Rattle.laws.proofs.Table.{each-of}
+use Rattle.laws.proofs.Zero.{above-clear}
 use Rattle.calls.specs.declared.Settings.{Settings}
 use Rattle.timeline.specs.Estimates.{EstimateRows, estimateRoom}
 use Rattle.timeline.specs.inside.Estimates.{Columns, estimatesIn, Numbered, Found}
@@ -19,7 +20,7 @@ use Rattle.timeline.specs.inside.Segments.{Room, FilledRows, filledRows}
 use Rattle.timeline.proofs.Rooms.{room-within, estimates-within}
 use Rattle.windows.specs.Span.{spanOf, rowsAsked, windowsOf}
 use Rattle.windows.specs.declared.span.Span.{Span}
-use Rattle.windows.proofs.Spans.{windows-asked, above-clear}
+use Rattle.windows.proofs.Spans.{windows-asked}
 use Rattle.shortening.specs.inside.Settled.{settled}
 use Rattle.segments.specs.inside.Fill.{filledOf}
 use Rattle.segments.specs.inside.Located.{LocatedIn, locatedIn, locatedOf, Prepared}

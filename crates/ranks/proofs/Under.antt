@@ -14,8 +14,8 @@ use Rattle.laws.specs.Order.{totalOrder, orderKey}
 use Rattle.laws.specs.Turns.{turns}
 use Rattle.laws.specs.Values.{negative, plusZero, clear}
 use Rattle.laws.proofs.Cases.{passed-or-failed, same-test, or-split}
-use Rattle.laws.proofs.Order.{lt-not-le, lt-of-le-of-lt, lt→le, le-left, le-right, apart-le}
-use Rattle.laws.proofs.Zero.{plusZero-least}
+use Rattle.laws.proofs.Order.{lt-not-le, lt-of-le-of-lt, lt→le, le-left, apart-le}
+use Rattle.laws.proofs.Zero.{plusZero-least, above-clear}
 use Rattle.laws.proofs.Signs.{kind, clear-is, negative-is}
 use Rattle.laws.proofs.Turns.{turns-last}
 use Rattle.laws.proofs.Total.{total-order}
@@ -23,16 +23,11 @@ use Rattle.ranks.specs.inside.Search.{countTurn, countBelow}
 use Rattle.ranks.specs.inside.Narrow.{divides, underTurn, countUnder}
 use Rattle.ranks.proofs.Sorted.{InSingle}
 
--- ---- a bound has the sign minus, or is above zero
+-- ---- a bound below zero has the sign minus
 below-zero : (b : Float) → T (lt b plusZero) → (b ≡ nan) ⊎ (T (clear b) ⊎ T (negative b)) → T (negative b)
 below-zero b l (inl e) = absurd (le-left nan plusZero (lt→le nan plusZero (subst (λ (x : Float). T (lt x plusZero)) e l)))
 below-zero b l (inr (inl c)) = absurd (lt-not-le b plusZero l (plusZero-least b c))
 below-zero b l (inr (inr n)) = n
-
-above-zero : (b : Float) → T (lt plusZero b) → (b ≡ nan) ⊎ (T (clear b) ⊎ T (negative b)) → T (clear b)
-above-zero b l (inl e) = absurd (le-right plusZero nan (lt→le plusZero nan (subst (λ (x : Float). T (lt plusZero x)) e l)))
-above-zero b l (inr (inl c)) = c
-above-zero b l (inr (inr n)) = absurd (lt-not-le plusZero b l (apart-le b plusZero n tt))
 
 -- ---- where x is not below the bound, the bound is at or before x
 last-test : (t u : Bool) → u ≡ true → cond t true u ≡ true
@@ -51,7 +46,7 @@ bound-before : (b x : Float) → T (lt b plusZero) ⊎ T (lt plusZero b) → (x 
 bound-before b x h (inl e) l = ap (totalOrder b) e ∙ total-order binary32 .nan-last b .0
 bound-before b x (inl h) (inr (inl c)) l = negative-before b x (below-zero b h (kind b)) (clear-is x c .0) l
 bound-before b x (inl h) (inr (inr n)) l = negative-before b x (below-zero b h (kind b)) (negative-is x n .0) l
-bound-before b x (inr h) (inr (inl c)) l = clear-before b x (above-zero b h (kind b)) c l
+bound-before b x (inr h) (inr (inl c)) l = clear-before b x (above-clear b h) c l
 bound-before b x (inr h) (inr (inr n)) l = absurd (subst T l (lt-of-le-of-lt x plusZero b (apart-le x plusZero n tt) h))
 
 module _ (b : Float) (d : T (divides b)) (g : InSingle b) where

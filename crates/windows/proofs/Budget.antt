@@ -15,14 +15,13 @@ use Rattle.laws.proofs.Cases.{same-test, lt-or-ge}
 use Rattle.laws.proofs.First.{first-before, first-or-end}
 use Rattle.laws.proofs.Order.{not-lt→le, le-refl, le-trans, le-left, lt-not-le, lt-of-le-of-lt, lt-of-lt-of-le}
 use Rattle.laws.proofs.Nonneg.{nonneg→clear, clear→ordered, add-clear}
-use Rattle.laws.proofs.Zero.{plusZero-add, add-right}
+use Rattle.laws.proofs.Zero.{above-clear, plusZero-add, add-right}
 use Rattle.laws.proofs.Middle.{modest-under}
 use Rattle.laws.proofs.Parts.{parts-clear, parts-mono, parts-held, parts-modest, add-parts, add-over, add-grows}
 use Rattle.calls.specs.Call.{longestTrack}
 use Rattle.windows.specs.Span.{brief, startOf, endsAt, budgetFor, windowsWithin, windowsOf, rowsAsked}
 use Rattle.windows.specs.Budget.{Spread, StartsSpread, StartsGrow, BudgetSuffices, Passes}
 use Rattle.windows.specs.declared.span.Span.{Span}
-use Rattle.windows.proofs.Spans.{above-clear}
 use Rattle.windows.proofs.Starts.{start-first, start-next, start-each, start-fits, start-clear}
 
 -- half a second and more has the sign plus

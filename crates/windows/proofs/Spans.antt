@@ -15,7 +15,7 @@ use Rattle.laws.specs.First.{first}
 use Rattle.laws.specs.Values.{plusZero, clear, nonneg, Modest}
 use Rattle.laws.specs.Convert.{parts}
 use Rattle.laws.proofs.First.{first-within}
-use Rattle.laws.proofs.Order.{lt→le, le-right, lt-not-le, apart-le}
+use Rattle.laws.proofs.Zero.{above-clear}
 use Rattle.laws.proofs.Nonneg.{Rounds, rounds-clear, rounds-mono, div-rounds}
 use Rattle.laws.proofs.Held.{value-nonneg}
 use Rattle.laws.proofs.Middle.{modest-under}
@@ -70,14 +70,6 @@ seconds-round s sample few rated slow =
 
 rounds-fit : {f : Format} {x : Float} {a c : ℕ} → Rounds f x a c → T (fits f x)
 rounds-fit {f} {x} {a} {c} r = subst (λ (z : Float). T (fits f z)) (sym (r .is)) (round-fits f false a c)
-
--- what is above +0 has the sign plus
-pub above-clear : (x : Float) → T (lt plusZero x) → T (clear x)
-above-clear nan h = le-right plusZero nan (lt→le plusZero nan h)
-above-clear (inf true) h = absurd (lt-not-le plusZero (inf true) h (apart-le (inf true) plusZero tt tt))
-above-clear (inf false) h = tt
-above-clear (fin true m e) h = absurd (lt-not-le plusZero (fin true m e) h (apart-le (fin true m e) plusZero tt tt))
-above-clear (fin false m e) h = tt
 
 finite-clear : (x : Float) → T (finite x) → T (clear x) → T (nonneg x)
 finite-clear nan h c = h
