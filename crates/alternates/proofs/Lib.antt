@@ -4,3 +4,4 @@ mod Sums
 mod Noting
 pub mod Tiled
 pub mod Named
+pub mod Unread

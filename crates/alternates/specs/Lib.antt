@@ -1,3 +1,4 @@
 pub mod Alternate
 pub mod Named
+pub mod Unread
 pub mod inside

@@ -7,8 +7,7 @@ ghost use Rattle.laws.specs.Order.{totalOrder};
 ghost use Rattle.laws.specs.Leader.{outdone};
 ghost use Rattle.keys.specs.Numbers.{keyNumber};
 ghost use Rattle.timeline.specs.inside.Estimates.{Numbered};
-ghost use Rattle.timeline.specs.Segments.{lentSegments, segmentsIn};
-ghost use Rattle.timeline.specs.inside.Segments.{Room};
+ghost use Rattle.timeline.specs.inside.Segments.{lentStretches, stretchesIn, Stretched};
 ghost use Rattle.alternates.specs.Alternate.{heldSeconds, lasting, totalOf, namedUnlessLacking, alternateOf};
 ghost use Rattle.alternates.specs.inside.Noted.{notedOf, leaderIn, standingOf};
 use conversions::narrow;
@@ -17,8 +16,8 @@ use keys::numbers::key_number;
 use numbers::double::larger;
 use numbers::double::total_before;
 use timeline::segment::Segment;
-use timeline::segment::segment_at;
 use timeline::segment::segment_seconds;
+use timeline::segment::stretch_at;
 
 // No alternate, or a key by its number with the part of the track that it covers.
 pub enum Alternate {
@@ -62,20 +61,14 @@ fn with_length(sum: f64, segment: Segment) -> f64
 }
 
 // All segments' lengths, summed in order from -0.
-fn total_seconds(
-    count: usize,
-    starts: &[f64],
-    ends: &[f64],
-    keys: &[u8],
-    confidences: &[f32],
-) -> f64
-    requires { ⌜ Room (lentSegments starts ends keys confidences) count ⌝ }
-    ensures { λ r. ⌜ r ≡ totalOf (segmentsIn (lentSegments (starts .entry) (ends .entry) (keys .entry) (confidences .entry)) count) ⌝ }
+fn total_seconds(count: usize, starts: &[f64], ends: &[f64], keys: &[u8]) -> f64
+    requires { ⌜ Stretched (lentStretches starts ends keys) count ⌝ }
+    ensures { λ r. ⌜ r ≡ totalOf (stretchesIn (lentStretches (starts .entry) (ends .entry) (keys .entry)) count) ⌝ }
 {
     let mut sum = -0.0;
     let mut i = 0;
     while i < count {
-        let segment = segment_at(i, starts, ends, keys, confidences);
+        let segment = stretch_at(i, starts, ends, keys);
         sum = with_length(sum, segment);
         i += 1;
     }
@@ -84,16 +77,9 @@ fn total_seconds(
 
 // Notes each lasting segment's seconds, and its key where that is first met; the reported key counts
 // as met before all others.
-fn note_segments(
-    reported: u8,
-    count: usize,
-    starts: &[f64],
-    ends: &[f64],
-    keys: &[u8],
-    confidences: &[f32],
-) -> Noted
-    requires { ⌜ (reported < 24) × Room (lentSegments starts ends keys confidences) count ⌝ }
-    ensures { λ r. ⌜ r ≡ notedOf reported (segmentsIn (lentSegments (starts .entry) (ends .entry) (keys .entry) (confidences .entry)) count) ⌝ }
+fn note_segments(reported: u8, count: usize, starts: &[f64], ends: &[f64], keys: &[u8]) -> Noted
+    requires { ⌜ (reported < 24) × Stretched (lentStretches starts ends keys) count ⌝ }
+    ensures { λ r. ⌜ r ≡ notedOf reported (stretchesIn (lentStretches (starts .entry) (ends .entry) (keys .entry)) count) ⌝ }
 {
     let mut sums = [0.0; 24];
     let mut order = [0; 24];
@@ -104,7 +90,7 @@ fn note_segments(
     let mut i = 0;
     while i < count {
         let next = i + 1;
-        let segment = segment_at(i, starts, ends, keys, confidences);
+        let segment = stretch_at(i, starts, ends, keys);
         if is_lasting(segment) {
             let own = segment.key;
             let key = key_number(own);
@@ -179,19 +165,18 @@ pub fn alternate_key(
     starts: &[f64],
     ends: &[f64],
     keys: &[u8],
-    confidences: &[f32],
 ) -> Alternate
-    requires { ⌜ Room (lentSegments starts ends keys confidences) count ⌝ }
-    ensures { λ r. ⌜ r ≡ alternateOf (keyNumber reported) threshold (segmentsIn (lentSegments (starts .entry) (ends .entry) (keys .entry) (confidences .entry)) count) ⌝ }
+    requires { ⌜ Stretched (lentStretches starts ends keys) count ⌝ }
+    ensures { λ r. ⌜ r ≡ alternateOf (keyNumber reported) threshold (stretchesIn (lentStretches (starts .entry) (ends .entry) (keys .entry)) count) ⌝ }
 {
     if (threshold <= 0.0) | (count == 0) {
         return Alternate::Nobody;
     }
-    let total = total_seconds(count, starts, ends, keys, confidences);
+    let total = total_seconds(count, starts, ends, keys);
     if total <= 0.0000000000000002220446049250313 {
         return Alternate::Nobody;
     }
-    let noted = note_segments(key_number(reported), count, starts, ends, keys, confidences);
+    let noted = note_segments(key_number(reported), count, starts, ends, keys);
     let rival = find_leader(noted);
     judge(threshold, total, rival)
 }

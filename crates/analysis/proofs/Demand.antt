@@ -1,37 +1,30 @@
 -- Demand 3: only a call that passes the table and comes to its segments reports a key, and those segments are laid out over the duration.
 use mathlib.Core.Path.{_≡_, refl, sym, ap, subst}
 use mathlib.Core.Bool.{Bool}
-use mathlib.Core.List.{List, map}
+use mathlib.Core.List.{List}
 use Prim.Native.Nat.{ℕ, _<_}
 use native.Mathlib.Omega.{arith}
-use lib.Dec.{T, ltb, eqb, eqb→eq}
+use lib.Dec.{T, eqb→eq}
 use lib.ListN.{length}
 use lib.Ieee.{Float}
 use lib.Ieee.Fits.{and-r}
 use Rattle.laws.specs.Table.{anyOf}
 use Rattle.laws.specs.Values.{plusZero}
-use Rattle.laws.proofs.Cases.{by-test}
 use Rattle.keys.specs.Numbers.{keyNumber}
 use Rattle.keys.proofs.Placed.{numbers-are-keys}
 use Rattle.calls.specs.Call.{Call, Typed, longestTrack}
 use Rattle.calls.specs.declared.Settings.{Settings}
-use Rattle.checks.specs.declared.Checked.{Checked}
-use Rattle.checks.specs.declared.Checked.the-variants.{Refused, Empty, Go}
 use Rattle.checks.proofs.Passed.{Passed, passed}
-use Rattle.timeline.specs.Segments.{segmentAt, segmentsIn, holdingSegments}
+use Rattle.timeline.specs.Segments.{segmentAt}
 use Rattle.timeline.specs.declared.segment.Segment.{Segment}
 use Rattle.windows.specs.Span.{spanOf}
 use Rattle.gathering.specs.Gather.{Heard}
 use Rattle.windows.specs.declared.span.Span.{Span}
-use Rattle.one_frame.specs.declared.frame.Row.{Row}
-use Rattle.onsets.specs.Weighted.{weightedMedians}
-use Rattle.frames.specs.Run.{loudBefore, holdingFrames, stopAt}
 use Rattle.windows.specs.Run.{estimatesOf}
 use Rattle.windows.proofs.Spans.{duration-under}
 use Rattle.segments.specs.Demand.{LaidOut}
-use Rattle.segments.specs.inside.Fill.{cutOf, segmentsOf, filledOf}
-use Rattle.segments.proofs.LaidOut.{track-laid-out, filled-read-back}
-use Rattle.shortening.specs.Shorten.{leftIn}
+use Rattle.segments.specs.inside.Fill.{segmentsOf}
+use Rattle.segments.proofs.LaidOut.{track-laid-out}
 use Rattle.longest.specs.Longest.{reportedOf}
 use Rattle.longest.proofs.Reported.{longest-reported}
 use Rattle.alternates.specs.Alternate.{lasting, lastsIn, alternateOf, alternateNumber, alternateCoverage}
@@ -40,20 +33,17 @@ use Rattle.alternates.specs.declared.alternate.Alternate.{Alternate}
 use Rattle.alternates.specs.declared.alternate.Alternate.the-variants.{Nobody, Named}
 use Rattle.alternates.proofs.Named.{named-exactly}
 use Rattle.alternates.proofs.Tiled.{tiled-total-finite}
-use Rattle.verdicts.specs.Verdict.{faint, verdictOf}
 use Rattle.answers.specs.Answer.{counts, keyless, withAlternate}
 use Rattle.answers.specs.declared.answer.Counts.{Counts}
 use Rattle.verdicts.specs.declared.verdict.Verdict.{Verdict}
 use Rattle.rooms.specs.Lent.{Lent}
-use Rattle.rooms.specs.inside.With.{withFrames, workZeroed}
 use Rattle.rooms.specs.Room.{hasty, tooSmall}
 use Rattle.rooms.proofs.Budget.{finite-ordered, passed-timed}
 use Rattle.reports.specs.Report.{namedIn, reportOf}
 use Rattle.reports.specs.inside.Rows.{trackOf}
-use Rattle.loud_frames.specs.Loud.{analyseOutcome, reportLeft, chromasOf, heardOf, loudAnalysed}
-use Rattle.positions.specs.Positions.{positionsAnalysed}
-use Rattle.analysis.specs.Analyse.{afterChecks, tableOf}
+use Rattle.loud_frames.specs.Loud.{analyseOutcome, reportLeft}
 use Rattle.analysis.specs.Demand.{Alternating, LongestAnswered, Kept, DemandThree, AnalysisKeeps}
+use Rattle.analysis.proofs.Ways.{read-left, analysed-has}
 
 -- ---- the alternate and the reported key
 -- a key that has a lasting segment is a key's number
@@ -113,13 +103,6 @@ module _ (c : Call) (typed : Typed (c .settings)) {crowded : Bool} {positions : 
   unfolding trackOf
   laid v h = track-laid-out span (trackOf s span v) h (passed-timed c typed p) refl
 
-  -- the segments stand in their rows as they were shortened
-  read : (v : Verdict) (h : Heard) (l : Lent) → let found = estimatesOf span h in
-      let track = trackOf s span v in
-      segmentsIn (holdingSegments (leftIn (s .«minimum_segment_seconds») (cutOf track found)) (l .segments)) (length (segmentsOf track found)) ≡ segmentsOf track found
-  unfolding filledOf segmentsOf trackOf
-  read v h l = filled-read-back (trackOf s span v) (estimatesOf span h) (l .segments)
-
   -- what is answered of them
   report-keeps : (v : Verdict) (h : Heard) (l : Lent) → DemandThree c (reportLeft l (reportOf s (length (c .samples)) v h))
   unfolding reportOf namedIn withAlternate segmentsOf trackOf
@@ -129,7 +112,7 @@ module _ (c : Call) (typed : Typed (c .settings)) {crowded : Bool} {positions : 
       let many = counts (h .frames) (length found) (length segments) in
       let out = laid v h in
       let threshold = s .«alternate_coverage_threshold» in
-      subst (Kept c (namedIn threshold v many segments)) (sym (read v h l))
+      subst (Kept c (namedIn threshold v many segments)) (sym (read-left s (length (c .samples)) v h l))
       (record {
         tiles = out .tiles;
         none-short = out .none-short;
@@ -137,28 +120,7 @@ module _ (c : Call) (typed : Typed (c .settings)) {crowded : Bool} {positions : 
         alternate = alternating threshold v many segments (exactly-named segments out);
       })
 
-  loud-keeps : (found : List Row) (l : Lent) → DemandThree c (loudAnalysed s (length (c .samples)) found l)
-  unfolding loudAnalysed
-  loud-keeps found l =
-      let medians = weightedMedians (chromasOf found) (map (λ (r : Row). r .energy) found) (length found) in
-      let worked = workZeroed (length found) l in
-      by-test (DemandThree c) (eqb (length found) 0) (λ _. keyless-keeps c 0 0 0 l)
-      (λ _. by-test (DemandThree c) (faint medians) (λ _. keyless-keeps c 0 0 (length found) worked) (λ _. report-keeps (verdictOf medians (chromasOf found) (length found)) (heardOf found) worked))
-
-  positions-keep : (l : Lent) → DemandThree c (positionsAnalysed c positions l)
-  unfolding positionsAnalysed
-  positions-keep l =
-      let k = stopAt c positions in
-      let found = loudBefore c k in
-      let held = withFrames (holdingFrames found (l .frames)) l in
-      by-test (DemandThree c) (ltb k positions) (λ _. keyless-keeps c 9 k (length found) held) (λ _. loud-keeps found held)
-
 pub analysis-keeps : AnalysisKeeps
-analysis-keeps c l typed = go (tableOf c l) refl
-  where
-    go : (checks : Checked) → tableOf c l ≡ checks → DemandThree c (afterChecks c l checks)
-    go (Refused n) e = keyless-keeps c n 0 0 l
-    go Empty e = keyless-keeps c 0 0 0 l
-    go (Go positions) e =
-        let p = passed c (hasty (c .settings)) (anyOf (tooSmall (c .settings) (length (c .samples)) l)) positions e in
-        positions-keep c typed p l
+analysis-keeps c l typed =
+    analysed-has c (DemandThree c) (keyless-keeps c) l
+    (λ positions e. report-keeps c typed (passed c (hasty (c .settings)) (anyOf (tooSmall (c .settings) (length (c .samples)) l)) positions e))

@@ -1,4 +1,6 @@
--- What the proofs of an analysis share, and demand 3.
+-- What the proofs of an analysis share, demand 3, and the windows counted.
 mod Supplied
 mod Outcomes
+mod Ways
 pub mod Demand
+pub mod Counted

@@ -1,4 +1,4 @@
--- Demand 3 on a whole analysis: of the segments that it leaves in their rows, of the key that it reports and of the alternate. Definitions and the statement.
+-- Demand 3 on a whole analysis: of the segments that it leaves in their rows, of the key that it reports and of the alternate; and on how many windows the segments rest. Definitions and the statements.
 use mathlib.Core.Path.{_≡_}
 use Prim.Native.Nat.{ℕ, _<_}
 use mathlib.Core.List.{List}
@@ -9,6 +9,7 @@ use Rattle.laws.specs.Values.{plusZero}
 use Rattle.keys.specs.Numbers.{keyNumber}
 use Rattle.calls.specs.Call.{Call, Typed}
 use Rattle.timeline.specs.Segments.{segmentAt, segmentsIn}
+use Rattle.timeline.specs.Counts.{totalWindows}
 use Rattle.timeline.specs.Tiling.{Tiles, NoneShort}
 use Rattle.timeline.specs.declared.segment.Segment.{Segment}
 use Rattle.windows.specs.Span.{spanOf}
@@ -51,3 +52,11 @@ DemandThree c o = o .answer .key < 24 → Kept c (o .answer) (segmentsLeft o)
 -- it holds of every call, whatever is lent
 abbrev pub AnalysisKeeps : Type 0
 AnalysisKeeps = (c : Call) (l : Lent) → Typed (c .settings) → DemandThree c (analysed c l)
+
+-- the segments' counts sum to the estimates that the answer counts: every window that told a key stands behind one segment (02 §7)
+abbrev pub WindowsCounted : AnalyseOutcome → Type 0
+WindowsCounted o = totalWindows (segmentsLeft o) ≡ o .answer .estimates
+
+-- so it is in every call, whatever is lent; an answer without a key counts none
+abbrev pub AnalysisCounts : Type 0
+AnalysisCounts = (c : Call) (l : Lent) → WindowsCounted (analysed c l)

@@ -102,6 +102,7 @@ module _ {rows : Columns} {threshold : Float} {found : ℕ} {before now : Segmen
         ends = omega (arith, cut .room .ends);
         keys = omega (arith, cut .room .keys);
         confidences = omega (arith, cut .room .confidences);
+        counts = omega (arith, cut .room .counts);
       }
 
   -- the group up to `to`, written into the next row

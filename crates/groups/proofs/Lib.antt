@@ -4,3 +4,4 @@ mod Cuts
 pub mod Unread
 pub mod Tiled
 pub mod Few
+pub mod Counted

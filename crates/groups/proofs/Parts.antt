@@ -3,16 +3,18 @@ use mathlib.Core.Path.{_≡_, refl, sym, ap, _∙_, subst}
 use mathlib.Core.List.{List, [], _∷_, _++_, map}
 use Prim.Native.Nat.{ℕ, zero, suc, _+_, _-_, _<_, _≤_}
 use native.Mathlib.Omega.{arith}
-use lib.ListN.{length, getD, take, drop, length-drop}
+use lib.ListN.{length, getD, take, drop, length-drop, length-map}
 use lib.Seq.{take-append-le, drop-append-le, length-take-le, getD-take, getD-drop}
 use lib.Ieee.{Float, nan}
 use Rattle.laws.specs.Front.{list}
 use Rattle.laws.proofs.Front.{length-list, list-same, map-list, front-own}
-use Rattle.keys.specs.Numbers.{keyNumber}
+use Rattle.keys.specs.Numbers.{keyNumber, keyAt}
 use Rattle.keys.proofs.Placed.{numbers-are-keys}
 use Rattle.timeline.specs.inside.Estimates.{Columns, estimateIn, estimatesIn, Numbered, Found}
+use Rattle.timeline.specs.Segments.{segment}
 use Rattle.timeline.specs.declared.estimate.Estimate.{Estimate}
-use Rattle.groups.specs.Groups.{border, between, numbersOf, groupOf}
+use Rattle.majorities.specs.Majority.{majorityOf}
+use Rattle.groups.specs.Groups.{border, between, numbersOf, confidencesOf, meanConfidence, groupOf}
 use Rattle.groups.specs.inside.Written.{grouped}
 
 -- what stands behind a list does not matter to a part of it
@@ -46,7 +48,10 @@ module _ (rows : Columns) (count : ℕ) (there : Found rows count) where
       let estimates = estimatesIn rows count in
       let numbers = part-of-rows (λ (e : Estimate). keyNumber (e .key)) (estimateIn rows) (rows .keys) 0 count from to (λ i p. numbers-are-keys .number-back _ (there .numbered i p)) h k (there .keys) ∙ map-part (λ (e : Estimate). keyNumber (e .key)) (to - from) from estimates in
       let confidences = part-of-rows (λ (e : Estimate). e .confidence) (estimateIn rows) (rows .confidences) nan count from to (λ i p. refl) h k (there .confidences) ∙ map-part (λ (e : Estimate). e .confidence) (to - from) from estimates in
-      ap (λ (l : List ℕ). grouped start end l (between (rows .confidences) from to)) numbers ∙ ap (grouped start end (numbersOf (between estimates from to))) confidences
+      let group = between estimates from to in
+      ap (λ (l : List ℕ). grouped start end l (between (rows .confidences) from to)) numbers
+      ∙ ap (grouped start end (numbersOf group)) confidences
+      ∙ ap (segment start end (keyAt (majorityOf (numbersOf group))) (meanConfidence (confidencesOf group))) (length-map group (λ (e : Estimate). e .confidence))
 
 -- a part of key numbers
 pub part-numbered : (numbers : List ℕ) (from to : ℕ) → from < to → to ≤ length numbers → Numbered numbers to → Numbered (between numbers from to) (length (between numbers from to))

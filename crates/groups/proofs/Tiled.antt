@@ -100,7 +100,7 @@ pub groups-tile : GroupsTile
 unfolding firstSegments
 groups-tile threshold duration key confidence [] whole rising =
     let onward = plusZero-least duration (nonneg→clear duration (whole .held .at-least-zero)) in
-    chain→tiles duration (segment plusZero duration key confidence ∷ []) (zero-lt-suc 0) (record { at = refl; until = whole .held; onward = onward }, refl)
+    chain→tiles duration (segment plusZero duration key confidence 0 ∷ []) (zero-lt-suc 0) (record { at = refl; until = whole .held; onward = onward }, refl)
 groups-tile threshold duration key confidence (e ∷ r) whole rising =
     let some : eqb (length (e ∷ r)) 0 ≡ false = ne-eqb (length (e ∷ r)) 0 (λ z. omega (arith, z)) in
     rw some (groups-tiled threshold duration (e ∷ r) whole rising (zero-lt-suc (length r)))

@@ -2,7 +2,7 @@
 use mathlib.Core.Path.{_≡_, refl}
 use mathlib.Core.List.{List, [], _∷_, _++_, map}
 use Prim.Native.Nat.{ℕ, zero, suc, _+_, _-_}
-use lib.ListN.{length, length-map, List·getD-map}
+use lib.ListN.{length, take, drop, length-map, List·getD-map}
 use lib.Ieee.{Float}
 use Rattle.timeline.specs.Estimates.{noEstimate}
 use Rattle.timeline.specs.inside.Estimates.{asRead}
@@ -33,7 +33,7 @@ module _ (found : List Estimate) where
   group-read : (from to : Border) → groupOf (map asRead found) from to ≡ groupOf found from to
   unfolding groupOf
   group-read from to =
-      rw (map-part asRead (to .place - from .place) (from .place) found, column-read _ (λ e. refl) _, column-read _ (λ e. refl) _)
+      rw (map-part asRead (to .place - from .place) (from .place) found, column-read _ (λ e. refl) _, column-read _ (λ e. refl) _, length-map (take (to .place - from .place) (drop (from .place) found)) asRead)
 
   between-read : (borders : List Border) → segmentsBetween (map asRead found) borders ≡ segmentsBetween found borders
   unfolding segmentsBetween

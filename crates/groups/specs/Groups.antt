@@ -64,11 +64,11 @@ confidencesOf = map (λ (e : Estimate). e .confidence)
 unfoldable pub meanConfidence : List Float → Float
 meanConfidence confidences = div binary32 (sumOf (length confidences) confidences) (ofInt binary32 (pos (length confidences)))
 
--- the segment between two borders: the majority's key and the mean confidence of the estimates there
+-- the segment between two borders: the majority's key and the mean confidence of the estimates there, and how many they are
 unfoldable pub groupOf : List Estimate → Border → Border → Segment
 groupOf found from to =
     let group = between found (from .place) (to .place) in
-    segment (from .time) (to .time) (keyAt (majorityOf (numbersOf group))) (meanConfidence (confidencesOf group))
+    segment (from .time) (to .time) (keyAt (majorityOf (numbersOf group))) (meanConfidence (confidencesOf group)) (length group)
 
 -- a segment between each border and the next
 unfoldable pub segmentsBetween : List Estimate → List Border → List Segment
@@ -80,6 +80,6 @@ segmentsBetween found (b ∷ c ∷ r) = groupOf found b c ∷ segmentsBetween fo
 unfoldable pub groupsOf : Float → Float → List Estimate → List Segment
 groupsOf threshold duration found = segmentsBetween found (bordersOf threshold duration found)
 
--- the segments before shortening: one over the whole track, with this key and confidence, where there is no estimate
+-- the segments before shortening: where there is no estimate one over the whole track, with this key and confidence, which rests on none
 unfoldable pub firstSegments : Float → Float → Key → Float → List Estimate → List Segment
-firstSegments threshold duration key confidence found = cond (eqb (length found) 0) (segment plusZero duration key confidence ∷ []) (groupsOf threshold duration found)
+firstSegments threshold duration key confidence found = cond (eqb (length found) 0) (segment plusZero duration key confidence 0 ∷ []) (groupsOf threshold duration found)

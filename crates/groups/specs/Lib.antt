@@ -1,4 +1,5 @@
 pub mod Groups
 pub mod Unread
 pub mod Tiled
+pub mod Counted
 pub mod inside

@@ -64,11 +64,13 @@ fn segment_of_group(start: f64, end: f64, numbers: &[u8], confidences: &[f32]) -
     ensures { λ r. ⌜ r ≡ grouped start end (now (numbers .entry)) (now (confidences .entry)) ⌝ }
 {
     let key = stored_key(majority_key(numbers));
+    let windows = confidences.len() as u32;
     Segment {
         start,
         end,
         key,
         confidence: mean_confidence(confidences),
+        windows,
     }
 }
 
@@ -82,9 +84,10 @@ fn write_group(
     ends: &mut [f64],
     keys: &mut [u8],
     confidences: &mut [f32],
+    counts: &mut [u32],
 )
-    requires { ⌜ (group .from < group .to) × (group .to ≤ length (now numbers)) × (group .to ≤ length (now certainties)) × (group .to < 2 ^ 32) × Numbered (now numbers) (group .to) × Room (lentSegments starts ends keys confidences) (n + 1) ⌝ }
-    ensures { λ _. ⌜ lentSegments (starts .exit) (ends .exit) (keys .exit) (confidences .exit) ≡ putSegment (groupIn group (now (numbers .entry)) (now (certainties .entry))) n (lentSegments (starts .entry) (ends .entry) (keys .entry) (confidences .entry)) ⌝ }
+    requires { ⌜ (group .from < group .to) × (group .to ≤ length (now numbers)) × (group .to ≤ length (now certainties)) × (group .to < 2 ^ 32) × Numbered (now numbers) (group .to) × Room (lentSegments starts ends keys confidences counts) (n + 1) ⌝ }
+    ensures { λ _. ⌜ lentSegments (starts .exit) (ends .exit) (keys .exit) (confidences .exit) (counts .exit) ≡ putSegment (groupIn group (now (numbers .entry)) (now (certainties .entry))) n (lentSegments (starts .entry) (ends .entry) (keys .entry) (confidences .entry) (counts .entry)) ⌝ }
 {
     let from = group.from;
     let to = group.to;
@@ -94,7 +97,7 @@ fn write_group(
         &numbers[from..to],
         &certainties[from..to],
     );
-    put_segment(whole, n, starts, ends, keys, confidences);
+    put_segment(whole, n, starts, ends, keys, confidences, counts);
 }
 
 // Every group in turn, into the lent rows from the front; returns how many there are.
@@ -109,9 +112,10 @@ pub fn cut_groups(
     ends: &mut [f64],
     keys: &mut [u8],
     confidences: &mut [f32],
+    counts: &mut [u32],
 ) -> usize
-    requires { ⌜ (0 < found) × Found (lentColumns middles numbers certainties) found × Room (lentSegments starts ends keys confidences) found ⌝ }
-    ensures { λ r. ⌜ filledRows r (lentSegments (starts .exit) (ends .exit) (keys .exit) (confidences .exit)) ≡ standing (groupsOf threshold duration (estimatesIn (lentColumns (middles .entry) (numbers .entry) (certainties .entry)) found)) (lentSegments (starts .entry) (ends .entry) (keys .entry) (confidences .entry)) ⌝ }
+    requires { ⌜ (0 < found) × Found (lentColumns middles numbers certainties) found × Room (lentSegments starts ends keys confidences counts) found ⌝ }
+    ensures { λ r. ⌜ filledRows r (lentSegments (starts .exit) (ends .exit) (keys .exit) (confidences .exit) (counts .exit)) ≡ standing (groupsOf threshold duration (estimatesIn (lentColumns (middles .entry) (numbers .entry) (certainties .entry)) found)) (lentSegments (starts .entry) (ends .entry) (keys .entry) (confidences .entry) (counts .entry)) ⌝ }
 {
     let last = found - 1;
     let mut from = 0;
@@ -132,6 +136,7 @@ pub fn cut_groups(
                 ends,
                 keys,
                 confidences,
+                counts,
             );
             from = next;
             start = end;
@@ -149,6 +154,7 @@ pub fn cut_groups(
         ends,
         keys,
         confidences,
+        counts,
     );
     n + 1
 }

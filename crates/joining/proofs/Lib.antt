@@ -1,2 +1,3 @@
 -- What the walk cites.
+mod Fits
 mod Tasks

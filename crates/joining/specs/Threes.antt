@@ -1,5 +1,5 @@
 -- Three records, shortened. Definitions only.
-use Prim.Native.Nat.{ℕ, min}
+use Prim.Native.Nat.{ℕ, _+_, min}
 use mathlib.Core.List.{[], _∷_}
 use lib.Ieee.{Float}
 use Rattle.timeline.specs.Segments.{segmentAt}
@@ -10,6 +10,10 @@ use Rattle.joining.specs.declared.Three.{Three}
 -- three records, of which so many hold segments
 abbrev pub three : ℕ → Segment → Segment → Segment → Three
 three count first second third = record { count = count; first = first; second = second; third = third }
+
+-- how many windows three records rest on together
+abbrev pub windowsOfThree : Segment → Segment → Segment → ℕ
+windowsOfThree first second third = first .windows + second .windows + third .windows
 
 -- a slice of three records by its parts
 abbrev pub parts : Left → Three

@@ -1,4 +1,4 @@
--- A test's two outcomes: what holds of both answers of `cond`, two tests that pass alike, tests joined by `||`, and numbers that compare one way or the other.
+-- A test's two outcomes: what holds of both answers of `cond`, a function of them, two tests that pass alike, tests joined by `||`, and numbers that compare one way or the other.
 use mathlib.Core.Path.{_≡_, refl}
 use mathlib.Core.Logic.{_⊎_, inl, inr}
 use mathlib.Core.Bool.{Bool, true, false, not, _||_, cond}
@@ -8,6 +8,10 @@ use lib.Dec.{T, ltb, ltb→lt, nltb→le}
 pub by-test : {A : Type 0} (P : A → Type 0) (b : Bool) {x y : A} → (T b → P x) → (T (not b) → P y) → P (cond b x y)
 by-test P true h k = h tt
 by-test P false h k = k tt
+
+pub through-test : {A B : Type 0} (f : A → B) (b : Bool) (x y : A) → f (cond b x y) ≡ cond b (f x) (f y)
+through-test f true x y = refl
+through-test f false x y = refl
 
 pub passed-or-failed : (b : Bool) → T b ⊎ T (not b)
 passed-or-failed true = inl tt

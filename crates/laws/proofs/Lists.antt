@@ -1,12 +1,13 @@
 -- Laws of the entries that pass a test, and of a fold: a list that grows at its end, and a loop over a part of a list.
 use mathlib.Core.Path.{_≡_, refl, sym, ap, _∙_}
 use mathlib.Core.Bool.{Bool, true, false, cond}
-use mathlib.Core.List.{List, [], _∷_, _++_}
+use mathlib.Core.List.{List, [], _∷_, _++_, map}
 use Prim.Native.Nat.{ℕ, _+_, _<_, _≤_}
 use native.Mathlib.Numerals.{add-one}
 use lib.ListN.{length, getD}
 use lib.Seq.{slice, slice-cons, slice-empty}
 use Rattle.laws.specs.Lists.{passing, fold}
+use Rattle.laws.proofs.Cases.{through-test}
 
 -- ---- the entries that pass
 module _ {A : Type 0} (test : A → Bool) where
@@ -32,6 +33,12 @@ module _ {A : Type 0} (test : A → Bool) where
       either : passing test (passing test xs) ≡ passing test xs → (b : Bool) → test x ≡ b → passing test (cond b (x ∷ passing test xs) (passing test xs)) ≡ cond b (x ∷ passing test xs) (passing test xs)
       either rest true e = rw (e, rest)
       either rest false e = rest
+
+-- entries mapped and then tested are those tested as they would be mapped, and then mapped
+pub passing-map : {A B : Type 0} (test : B → Bool) (f : A → B) (xs : List A) → passing test (map f xs) ≡ map f (passing (λ (x : A). test (f x)) xs)
+unfolding passing
+passing-map test f [] = refl
+passing-map test f (x ∷ xs) = rw (passing-map test f xs) (sym (through-test (map f) (test (f x)) (x ∷ passing _ xs) (passing _ xs)))
 
 -- two tests, in either order
 pub passing-swap : {A : Type 0} (s t : A → Bool) (xs : List A) → passing s (passing t xs) ≡ passing t (passing s xs)

@@ -1,1 +1,2 @@
 pub mod Longest
+pub mod Unread

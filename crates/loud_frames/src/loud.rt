@@ -29,9 +29,10 @@ pub fn analyse_frames(
     ends: &mut [f64],
     keys: &mut [u8],
     confidences: &mut [f32],
+    counts: &mut [u32],
 ) -> AnalyseResult
-    requires { ⌜ Stocked settings samples frames (lentAll centres values energies work middles numbers certainties shapeless starts ends keys confidences) ⌝ }
-    ensures { λ r. ⌜ analyseOutcome r (lentAll (centres .entry) (values .entry) (energies .entry) (work .exit) (middles .exit) (numbers .exit) (certainties .exit) (shapeless .exit) (starts .exit) (ends .exit) (keys .exit) (confidences .exit)) ≡ loudAnalysed settings samples (framesIn (lentRows (centres .entry) (values .entry) (energies .entry)) frames) (lentAll (centres .entry) (values .entry) (energies .entry) (work .entry) (middles .entry) (numbers .entry) (certainties .entry) (shapeless .entry) (starts .entry) (ends .entry) (keys .entry) (confidences .entry)) ⌝ }
+    requires { ⌜ Stocked settings samples frames (lentAll centres values energies work middles numbers certainties shapeless starts ends keys confidences counts) ⌝ }
+    ensures { λ r. ⌜ analyseOutcome r (lentAll (centres .entry) (values .entry) (energies .entry) (work .exit) (middles .exit) (numbers .exit) (certainties .exit) (shapeless .exit) (starts .exit) (ends .exit) (keys .exit) (confidences .exit) (counts .exit)) ≡ loudAnalysed settings samples (framesIn (lentRows (centres .entry) (values .entry) (energies .entry)) frames) (lentAll (centres .entry) (values .entry) (energies .entry) (work .entry) (middles .entry) (numbers .entry) (certainties .entry) (shapeless .entry) (starts .entry) (ends .entry) (keys .entry) (confidences .entry) (counts .entry)) ⌝ }
 {
     if frames == 0 {
         return keyless(0, 0, 0);
@@ -56,5 +57,6 @@ pub fn analyse_frames(
         ends,
         keys,
         confidences,
+        counts,
     )
 }

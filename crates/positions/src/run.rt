@@ -37,9 +37,10 @@ pub fn analyse_positions(
     ends: &mut [f64],
     keys: &mut [u8],
     confidences: &mut [f32],
+    counts: &mut [u32],
 ) -> AnalyseResult
-    requires { ⌜ Supplied (given settings head samples window coefficients weights lengths qcoefficients qwindows) positions (lentAll centres values energies work middles numbers certainties shapeless starts ends keys confidences) ⌝ }
-    ensures { λ r. ⌜ analyseOutcome r (lentAll (centres .exit) (values .exit) (energies .exit) (work .exit) (middles .exit) (numbers .exit) (certainties .exit) (shapeless .exit) (starts .exit) (ends .exit) (keys .exit) (confidences .exit)) ≡ positionsAnalysed (given settings head (samples .entry) (window .entry) (coefficients .entry) (weights .entry) (lengths .entry) (qcoefficients .entry) (qwindows .entry)) positions (lentAll (centres .entry) (values .entry) (energies .entry) (work .entry) (middles .entry) (numbers .entry) (certainties .entry) (shapeless .entry) (starts .entry) (ends .entry) (keys .entry) (confidences .entry)) ⌝ }
+    requires { ⌜ Supplied (given settings head samples window coefficients weights lengths qcoefficients qwindows) positions (lentAll centres values energies work middles numbers certainties shapeless starts ends keys confidences counts) ⌝ }
+    ensures { λ r. ⌜ analyseOutcome r (lentAll (centres .exit) (values .exit) (energies .exit) (work .exit) (middles .exit) (numbers .exit) (certainties .exit) (shapeless .exit) (starts .exit) (ends .exit) (keys .exit) (confidences .exit) (counts .exit)) ≡ positionsAnalysed (given settings head (samples .entry) (window .entry) (coefficients .entry) (weights .entry) (lengths .entry) (qcoefficients .entry) (qwindows .entry)) positions (lentAll (centres .entry) (values .entry) (energies .entry) (work .entry) (middles .entry) (numbers .entry) (certainties .entry) (shapeless .entry) (starts .entry) (ends .entry) (keys .entry) (confidences .entry) (counts .entry)) ⌝ }
 {
     match fill_rows(
         settings,
@@ -73,6 +74,7 @@ pub fn analyse_positions(
             ends,
             keys,
             confidences,
+            counts,
         ),
     }
 }

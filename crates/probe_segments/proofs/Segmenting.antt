@@ -1,23 +1,30 @@
 -- What the guards of the segments' probes tell, and what is answered on either side of them.
-use mathlib.Core.Path.{_≡_, sym, ap, subst, _∙_}
+use mathlib.Core.Path.{_≡_, refl, sym, ap, subst, _∙_}
+use mathlib.Core.Logic.{inl, inr}
 use mathlib.Core.Bool.{Bool, true, false, not}
 use mathlib.Core.List.{List, [], _∷_}
-use Prim.Native.Nat.{ℕ, min}
+use Prim.Native.Nat.{ℕ, zero, suc, _+_, _^_, _<_, min}
+use native.Mathlib.Numerals.{add-one}
 use native.Mathlib.Omega.{arith}
-use borrow.Author.Tests.{ltb-true, leb-true, eqb-true, not-true, not-false}
+use borrow.Author.Tests.{lt-ltb, le-ltb, ltb-true, leb-true, eqb-true, not-true, not-false}
 use lib.Dec.{T, eqb, ltb, leb, ltb→lt}
 use lib.ListN.{length, getD}
 use lib.Ieee.{Float, lt}
+use lib.Ieee.Fits.{and-l, and-r}
+use Rattle.laws.specs.Front.{list}
 use Rattle.laws.specs.Values.{plusZero, clear}
+use Rattle.laws.proofs.Cases.{lt-or-ge}
 use Rattle.laws.proofs.Every.{each}
 use Rattle.laws.proofs.Table.{each-of}
 use Rattle.laws.proofs.Zero.{above-clear}
 use Rattle.calls.specs.declared.Settings.{Settings}
 use Rattle.timeline.specs.Estimates.{EstimateRows, estimateRoom}
 use Rattle.timeline.specs.inside.Estimates.{Columns, estimatesIn, Numbered, Found}
-use Rattle.timeline.specs.Segments.{SegmentRows, segmentsIn, segmentRoom}
+use Rattle.timeline.specs.Segments.{SegmentRows, segmentIn, segmentsIn, segmentRoom}
+use Rattle.timeline.specs.Counts.{totalWindows}
 use Rattle.timeline.specs.inside.Segments.{Room, FilledRows, filledRows}
 use Rattle.timeline.proofs.Rooms.{room-within, estimates-within}
+use Rattle.timeline.proofs.Counts.{total-append}
 use Rattle.windows.specs.Span.{spanOf, rowsAsked, windowsOf}
 use Rattle.windows.specs.declared.span.Span.{Span}
 use Rattle.windows.proofs.Spans.{windows-asked}
@@ -26,10 +33,10 @@ use Rattle.segments.specs.inside.Fill.{filledOf}
 use Rattle.segments.specs.inside.Located.{LocatedIn, locatedIn, locatedOf, Prepared}
 use Rattle.segments.specs.declared.fill.Track.{Track}
 use Rattle.segments.specs.declared.track.Located.{Located}
-use Rattle.probe_segments.specs.Segments.{isNumber, allNumbers, probedShorten, cutFits, probedCut, heardIn, canRun, counted, probed, probedSegments}
+use Rattle.probe_segments.specs.Segments.{isNumber, allNumbers, countsUpto, fewWindows, canShorten, probedShorten, cutFits, probedCut, heardIn, canRun, counted, probed, probedSegments}
 
-pub numbered : (keys : List ℕ) (count : ℕ) → allNumbers keys count ≡ true → Numbered keys count
-numbered keys count e i h = ltb→lt (getD keys i 0) 24 (each (isNumber keys) count (subst T (sym e) tt) i h)
+pub numbered : (keys : List ℕ) (count : ℕ) → T (allNumbers keys count) → Numbered keys count
+numbered keys count e i h = ltb→lt (getD keys i 0) 24 (each (isNumber keys) count e i h)
 
 -- what a guard's flag says of what it stands for
 failed : {flag test : Bool} → flag ≡ test → not flag ≡ true → test ≡ false
@@ -38,15 +45,43 @@ failed {flag} e t = sym e ∙ not-true flag t
 passed : {flag test : Bool} → flag ≡ test → not flag ≡ false → test ≡ true
 passed {flag} e t = sym e ∙ not-false flag t
 
-module _ (least : Float) (rows : SegmentRows) {count : ℕ} {flag : Bool} (all : count ≡ segmentRoom rows) (told : flag ≡ allNumbers (rows .keys) count) where
-  known : {b : Bool} → allNumbers (rows .keys) count ≡ b → allNumbers (rows .keys) (segmentRoom rows) ≡ b
-  known e = ap (allNumbers (rows .keys)) (sym all) ∙ e
+-- a number held at a limit is below it where the number is
+pub held-below : (n limit : ℕ) {held : ℕ} → held ≡ min n limit → ltb held limit ≡ ltb n limit
+held-below n limit {held} e =
+    elim (lt-or-ge n limit) [
+      | inl low ↦ lt-ltb held limit (omega (arith, e, low)) ∙ sym (lt-ltb n limit low)
+      | inr high ↦ le-ltb held limit (omega (arith, e, high)) ∙ sym (le-ltb n limit high)
+    ]
+
+-- one count more
+pub counts-more : (counts : List ℕ) (i : ℕ) → countsUpto counts (i + 1) ≡ countsUpto counts i + getD counts i 0
+unfolding countsUpto
+counts-more counts i = ap (countsUpto counts) (add-one i)
+
+-- the counts in the rows are the segments' own
+counts-are : (rows : SegmentRows) (count : ℕ) → countsUpto (rows .counts) count ≡ totalWindows (segmentsIn rows count)
+unfolding countsUpto totalWindows list segmentIn
+counts-are rows zero = refl
+counts-are rows (suc k) =
+    let sum = total-append (segmentsIn rows k) (segmentIn rows k ∷ []) in
+    let before = counts-are rows k in
+    omega (arith, sum, before)
+
+module _ (least : Float) (rows : SegmentRows) {count : ℕ} {flag : Bool} (all : count ≡ segmentRoom rows) (told : flag ≡ canShorten (rows .keys) (rows .counts) count) where
+  known : {b : Bool} → canShorten (rows .keys) (rows .counts) count ≡ b → canShorten (rows .keys) (rows .counts) (segmentRoom rows) ≡ b
+  known e = ap (canShorten (rows .keys) (rows .counts)) (sym all) ∙ e
 
   pub not-shortened : not flag ≡ true → filledRows 0 rows ≡ probedShorten least rows
   not-shortened t = rw (known (failed told t))
 
-  pub shorten-needs : not flag ≡ false → Room rows count × Numbered (rows .keys) count
-  shorten-needs t = (room-within rows count (omega (arith, all)), numbered (rows .keys) count (passed told t))
+  pub shorten-needs : not flag ≡ false → Room rows count × Numbered (rows .keys) count × (totalWindows (segmentsIn rows count) < 2 ^ 32)
+  shorten-needs t =
+      let tests = subst T (sym (passed told t)) tt in
+      let few = ltb→lt (countsUpto (rows .counts) count) 4_294_967_296 (and-r (allNumbers (rows .keys) count) (fewWindows (rows .counts) count) tests) in (
+        room-within rows count (omega (arith, all)),
+        numbered (rows .keys) count (and-l (allNumbers (rows .keys) count) (fewWindows (rows .counts) count) tests),
+        omega (arith, few, counts-are rows count),
+      )
 
   pub shortened : {out : FilledRows} → not flag ≡ false → out ≡ settled least (segmentsIn rows count) rows → out ≡ probedShorten least rows
   shortened t e = e ∙ ap (λ (n : ℕ). settled least (segmentsIn rows n) rows) all ∙ rw (known (passed told t))
@@ -74,7 +109,7 @@ module _ (t : Track) (e : Columns) (rows : SegmentRows) {room : ℕ} {fit : Bool
         let within = leb-true found room (test 2) in
         let one = leb-true 1 room (test 3) in
         let few = ltb-true found 4_294_967_296 (test 4) in (
-          record { centres = omega (arith, centres); keys = omega arith; confidences = omega (arith, confidences); numbered = numbered (e .keys) found (passed numbers f); few = few },
+          record { centres = omega (arith, centres); keys = omega arith; confidences = omega (arith, confidences); numbered = numbered (e .keys) found (subst T (sym (passed numbers f)) tt); few = few },
           room-within rows found (omega (arith, within, all)),
           room-within rows 1 (omega (arith, one, all)),
         )

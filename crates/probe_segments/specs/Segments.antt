@@ -1,19 +1,20 @@
 -- What the probes of segments answer and leave, for rows of any length and any numbers in them. Definitions only.
-use Prim.Native.Nat.{ℕ, min}
-use mathlib.Core.Bool.{Bool, cond}
+use Prim.Native.Nat.{ℕ, zero, suc, _+_, min}
+use mathlib.Core.Bool.{Bool, _&&_, cond}
 use mathlib.Core.List.{List, [], _∷_}
 use lib.Dec.{eqb, ltb, leb}
 use lib.ListN.{length, getD}
 use lib.Ieee.{Float, lt}
 use Rattle.laws.specs.Values.{plusZero}
 use Rattle.laws.specs.Every.{every}
+use Rattle.laws.specs.Front.{shortest}
 use Rattle.laws.specs.Table.{allOf}
 use Rattle.keys.specs.Numbers.{keyNumber, keyAt}
 use Rattle.calls.specs.declared.Settings.{Settings}
 use Rattle.timeline.specs.Estimates.{EstimateRows, estimateRoom}
 use Rattle.timeline.specs.inside.Estimates.{Columns, estimatesIn}
 use Rattle.timeline.specs.Segments.{SegmentRows, segmentsIn, segmentRoom}
-use Rattle.timeline.specs.inside.Segments.{FilledRows, filledRows}
+use Rattle.timeline.specs.inside.Segments.{FilledRows, filledRows, Stretches, stretchesIn}
 use Rattle.windows.specs.Span.{spanOf, rowsAsked}
 use Rattle.gathering.specs.Gather.{Heard, heard}
 use Rattle.majorities.specs.Majority.{majorityOf}
@@ -39,21 +40,38 @@ allNumbers keys count = every (isNumber keys) count
 abbrev pub probedMajority : List ℕ → ℕ
 probedMajority numbers = cond (allNumbers numbers (length numbers)) (majorityOf numbers) 0
 
--- all rows shortened; nothing where a key is above 23
+-- the first counts summed
+unfoldable pub countsUpto : List ℕ → ℕ → ℕ
+countsUpto counts zero = 0
+countsUpto counts (suc k) = countsUpto counts k + getD counts k 0
+
+-- their sum is a count of 32 bits
+abbrev pub fewWindows : List ℕ → ℕ → Bool
+fewWindows counts count = ltb (countsUpto counts count) 4_294_967_296
+
+-- the first rows can be shortened
+abbrev pub canShorten : List ℕ → List ℕ → ℕ → Bool
+canShorten keys counts count = allNumbers keys count && fewWindows counts count
+
+-- all rows shortened; nothing where a key is above 23 or the counts sum to more than 32 bits hold
 abbrev pub probedShorten : Float → SegmentRows → FilledRows
-probedShorten least rows = let count = segmentRoom rows in cond (allNumbers (rows .keys) count) (settled least (segmentsIn rows count) rows) (filledRows 0 rows)
+probedShorten least rows = let count = segmentRoom rows in cond (canShorten (rows .keys) (rows .counts) count) (settled least (segmentsIn rows count) rows) (filledRows 0 rows)
+
+-- how many rows three columns have
+abbrev pub stretchRoom : Stretches → ℕ
+stretchRoom c = shortest (length (c .starts)) (length (c .ends) ∷ length (c .keys) ∷ [])
 
 -- the reported key of all rows
-abbrev pub probedReported : ℕ → SegmentRows → ℕ
-probedReported classified rows = keyNumber (reportedOf (keyAt classified) (segmentsIn rows (segmentRoom rows)))
+abbrev pub probedReported : ℕ → Stretches → ℕ
+probedReported classified c = keyNumber (reportedOf (keyAt classified) (stretchesIn c (stretchRoom c)))
 
 -- both parts of an alternate's answer
 abbrev pub probedAnswer : Alternate → ProbedAlternate
 probedAnswer a = record { key = alternateNumber a; coverage = alternateCoverage a }
 
 -- the alternate key of all rows
-abbrev pub probedAlternate : ℕ → Float → SegmentRows → ProbedAlternate
-probedAlternate reported threshold rows = probedAnswer (alternateOf (keyNumber (keyAt reported)) threshold (segmentsIn rows (segmentRoom rows)))
+abbrev pub probedAlternate : ℕ → Float → Stretches → ProbedAlternate
+probedAlternate reported threshold c = probedAnswer (alternateOf (keyNumber (keyAt reported)) threshold (stretchesIn c (stretchRoom c)))
 
 -- a track, from its parts and its key's number
 abbrev pub trackOf : Float → Float → Float → ℕ → Float → Track

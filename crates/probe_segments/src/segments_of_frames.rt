@@ -61,13 +61,14 @@ pub extern "C" fn probe_segments(
     ends: &mut [f64],
     keys: &mut [u8],
     confidences: &mut [f32],
+    counts: &mut [u32],
 ) -> ProbedSegments
-    ensures { λ r. ⌜ probed r (lentEstimates (middles .exit) (numbers .exit) (certainties .exit) (shapeless .exit)) (lentSegments (starts .exit) (ends .exit) (keys .exit) (confidences .exit)) ≡ probedSegments settings samples (probedTrack settings samples key confidence) (heardIn (now (centres .entry)) (now (values .entry))) (lentEstimates (middles .entry) (numbers .entry) (certainties .entry) (shapeless .entry)) (lentSegments (starts .entry) (ends .entry) (keys .entry) (confidences .entry)) ⌝ }
+    ensures { λ r. ⌜ probed r (lentEstimates (middles .exit) (numbers .exit) (certainties .exit) (shapeless .exit)) (lentSegments (starts .exit) (ends .exit) (keys .exit) (confidences .exit) (counts .exit)) ≡ probedSegments settings samples (probedTrack settings samples key confidence) (heardIn (now (centres .entry)) (now (values .entry))) (lentEstimates (middles .entry) (numbers .entry) (certainties .entry) (shapeless .entry)) (lentSegments (starts .entry) (ends .entry) (keys .entry) (confidences .entry) (counts .entry)) ⌝ }
 {
     let span = span_of(settings, samples);
     let asked = rows_asked(span);
     let estimates = estimate_room(middles, numbers, certainties, shapeless);
-    let room = segment_room(starts, ends, keys, confidences);
+    let room = segment_room(starts, ends, keys, confidences, counts);
     if !can_run(settings.local_hop_seconds, asked, estimates, room) {
         return ProbedSegments {
             outcome: 8,
@@ -91,6 +92,7 @@ pub extern "C" fn probe_segments(
         ends,
         keys,
         confidences,
+        counts,
     );
     ProbedSegments {
         outcome: 0,

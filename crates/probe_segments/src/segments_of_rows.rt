@@ -4,13 +4,14 @@ ghost use Prim.Native.Nat.{_≤_};
 ghost use lib.ListN.{length};
 ghost use Rattle.timeline.specs.inside.Estimates.{lentColumns};
 ghost use Rattle.timeline.specs.Segments.{lentSegments};
-ghost use Rattle.timeline.specs.inside.Segments.{filledRows};
-ghost use Rattle.probe_segments.specs.Segments.{probedMajority, allNumbers, probedShorten, probedReported, probedAnswer, probedAlternate, cutFits, probedCut, trackOf};
+ghost use Rattle.timeline.specs.inside.Segments.{filledRows, lentStretches};
+ghost use Rattle.probe_segments.specs.Segments.{probedMajority, allNumbers, fewWindows, canShorten, probedShorten, stretchRoom, probedReported, probedAnswer, probedAlternate, cutFits, probedCut, trackOf};
 use alternates::alternate::Alternate;
 use alternates::alternate::alternate_key;
 use keys::numbers::key_number;
 use longest::longest::reported_key;
 use majorities::majority::majority_key;
+use numbers::counts::fewer;
 use segments::fill::Track;
 use segments::fill::fill_segments;
 use shortening::shorten::shorten_segments;
@@ -49,7 +50,29 @@ pub extern "C" fn probe_majority(numbers: &[u8]) -> u8
     0
 }
 
-// All rows shortened; nothing where a key is above 23.
+// Whether the first counts sum to a count of 32 bits.
+fn few_windows(counts: &[u32], count: usize) -> bool
+    requires { ⌜ count ≤ length (now counts) ⌝ }
+    ensures { λ r. ⌜ r ≡ fewWindows (now (counts .entry)) count ⌝ }
+{
+    let mut total = 0;
+    let mut i = 0;
+    while i < count {
+        total = fewer(total + counts[i] as usize, 4_294_967_296);
+        i += 1;
+    }
+    total < 4_294_967_296
+}
+
+// Whether the first rows can be shortened.
+fn can_shorten(keys: &[u8], counts: &[u32], count: usize) -> bool
+    requires { ⌜ (count ≤ length (now keys)) × (count ≤ length (now counts)) ⌝ }
+    ensures { λ r. ⌜ r ≡ canShorten (now (keys .entry)) (now (counts .entry)) count ⌝ }
+{
+    all_numbers(keys, count) & few_windows(counts, count)
+}
+
+// All rows shortened; nothing where a key is above 23 or the counts sum to more than 32 bits hold.
 #[no_mangle]
 pub extern "C" fn probe_shorten(
     least: f64,
@@ -57,30 +80,32 @@ pub extern "C" fn probe_shorten(
     ends: &mut [f64],
     keys: &mut [u8],
     confidences: &mut [f32],
+    counts: &mut [u32],
 ) -> usize
-    ensures { λ r. ⌜ filledRows r (lentSegments (starts .exit) (ends .exit) (keys .exit) (confidences .exit)) ≡ probedShorten least (lentSegments (starts .entry) (ends .entry) (keys .entry) (confidences .entry)) ⌝ }
+    ensures { λ r. ⌜ filledRows r (lentSegments (starts .exit) (ends .exit) (keys .exit) (confidences .exit) (counts .exit)) ≡ probedShorten least (lentSegments (starts .entry) (ends .entry) (keys .entry) (confidences .entry) (counts .entry)) ⌝ }
 {
-    let count = segment_room(starts, ends, keys, confidences);
-    if !all_numbers(keys, count) {
+    let count = segment_room(starts, ends, keys, confidences, counts);
+    if !can_shorten(keys, counts, count) {
         return 0;
     }
-    shorten_segments(least, count, starts, ends, keys, confidences)
+    shorten_segments(least, count, starts, ends, keys, confidences, counts)
+}
+
+// How many rows three columns have.
+fn stretch_room(starts: &[f64], ends: &[f64], keys: &[u8]) -> usize
+    ensures { λ r. ⌜ r ≡ stretchRoom (lentStretches (starts .entry) (ends .entry) (keys .entry)) ⌝ }
+{
+    fewer(starts.len(), fewer(ends.len(), keys.len()))
 }
 
 // The reported key of all rows.
 #[no_mangle]
-pub extern "C" fn probe_reported(
-    classified: u8,
-    starts: &[f64],
-    ends: &[f64],
-    keys: &[u8],
-    confidences: &[f32],
-) -> u8
-    ensures { λ r. ⌜ r ≡ probedReported classified (lentSegments (starts .entry) (ends .entry) (keys .entry) (confidences .entry)) ⌝ }
+pub extern "C" fn probe_reported(classified: u8, starts: &[f64], ends: &[f64], keys: &[u8]) -> u8
+    ensures { λ r. ⌜ r ≡ probedReported classified (lentStretches (starts .entry) (ends .entry) (keys .entry)) ⌝ }
 {
-    let count = segment_room(starts, ends, keys, confidences);
+    let count = stretch_room(starts, ends, keys);
     let key = stored_key(classified);
-    let reported = reported_key(key, count, starts, ends, keys, confidences);
+    let reported = reported_key(key, count, starts, ends, keys);
     key_number(reported)
 }
 
@@ -105,13 +130,12 @@ pub extern "C" fn probe_alternate(
     starts: &[f64],
     ends: &[f64],
     keys: &[u8],
-    confidences: &[f32],
 ) -> ProbedAlternate
-    ensures { λ r. ⌜ r ≡ probedAlternate reported threshold (lentSegments (starts .entry) (ends .entry) (keys .entry) (confidences .entry)) ⌝ }
+    ensures { λ r. ⌜ r ≡ probedAlternate reported threshold (lentStretches (starts .entry) (ends .entry) (keys .entry)) ⌝ }
 {
-    let count = segment_room(starts, ends, keys, confidences);
+    let count = stretch_room(starts, ends, keys);
     let key = stored_key(reported);
-    let alternate = alternate_key(key, threshold, count, starts, ends, keys, confidences);
+    let alternate = alternate_key(key, threshold, count, starts, ends, keys);
     answer_of(alternate)
 }
 
@@ -155,11 +179,12 @@ pub extern "C" fn probe_cut(
     ends: &mut [f64],
     keys: &mut [u8],
     confidences: &mut [f32],
+    counts: &mut [u32],
 ) -> usize
-    ensures { λ r. ⌜ filledRows r (lentSegments (starts .exit) (ends .exit) (keys .exit) (confidences .exit)) ≡ probedCut (trackOf threshold minimum duration key confidence) (lentColumns (middles .entry) (numbers .entry) (certainties .entry)) (lentSegments (starts .entry) (ends .entry) (keys .entry) (confidences .entry)) ⌝ }
+    ensures { λ r. ⌜ filledRows r (lentSegments (starts .exit) (ends .exit) (keys .exit) (confidences .exit) (counts .exit)) ≡ probedCut (trackOf threshold minimum duration key confidence) (lentColumns (middles .entry) (numbers .entry) (certainties .entry)) (lentSegments (starts .entry) (ends .entry) (keys .entry) (confidences .entry) (counts .entry)) ⌝ }
 {
     let found = numbers.len();
-    let room = segment_room(starts, ends, keys, confidences);
+    let room = segment_room(starts, ends, keys, confidences, counts);
     if !cut_fits(middles.len(), found, certainties.len(), room) {
         return 0;
     }
@@ -177,5 +202,6 @@ pub extern "C" fn probe_cut(
         ends,
         keys,
         confidences,
+        counts,
     )
 }

@@ -8,13 +8,15 @@ use lib.Ieee.{Float}
 use Rattle.timeline.specs.Segments.{emptied, holdingSegments}
 use Rattle.timeline.specs.inside.Segments.{filledRows}
 use Rattle.timeline.specs.Tiling.{Tiles, NoneShort}
+use Rattle.timeline.specs.Counts.{totalWindows}
 use Rattle.timeline.specs.declared.segment.Segment.{Segment}
 use Rattle.shortening.specs.Shorten.{shortenedOf, leftIn}
 use Rattle.shortening.specs.inside.Settled.{settled}
 use Rattle.shortening.proofs.Settles.{left-long, none-left-short}
 use Rattle.shortening.proofs.Tiled.{shortening-tiles}
+use Rattle.shortening.proofs.Counts.{counts-stay}
 use Rattle.records.specs.Records.{shortenedIn}
-use Rattle.records.specs.Same.{leftOf, RecordsAreRows, NoRecordShort, RecordsTile}
+use Rattle.records.specs.Same.{leftOf, RecordsAreRows, NoRecordShort, RecordsTile, RecordsCount}
 
 module _ (least : Float) (count : ℕ) (records : List Segment) where
   abbrev first : List Segment
@@ -45,3 +47,6 @@ no-record-short least count records = subst (NoneShort least) (sym (left-is leas
 
 pub records-tile : RecordsTile
 records-tile least duration count records t = subst (Tiles duration) (sym (left-is least count records)) (shortening-tiles least duration (take count records) t)
+
+pub records-count : RecordsCount
+records-count least count records = ap totalWindows (left-is least count records) ∙ counts-stay (take count records) .shortened least

@@ -1,20 +1,24 @@
 -- Laws of the loop that shortens, a law for each way out of a turn: what shortening makes of the records that a turn leaves, it makes of those that the turn found.
-use mathlib.Core.Path.{_≡_, refl, sym, ap, _∙_}
+use mathlib.Core.Path.{_≡_, refl, sym, ap, ap₂, _∙_}
 use mathlib.Core.Bool.{not}
 use mathlib.Core.List.{List, _∷_, _++_, append-assoc, append-nil}
-use Prim.Native.Nat.{ℕ, suc, _+_, _-_, _<_, _≤_}
+use Prim.Native.Nat.{ℕ, suc, _+_, _-_, _^_, _<_, _≤_}
 use native.Mathlib.Omega.{arith}
 use lib.Dec.{T}
-use lib.ListN.{length, take, drop, replicate, length-append, take-append-drop}
+use lib.ListN.{length, take, drop, replicate, take-append-drop}
 use lib.Seq.{length-take-le, take-append-seam, drop-append-seam}
 use lib.Ieee.{Float}
 use Rattle.timeline.specs.Segments.{emptied}
+use Rattle.timeline.specs.Counts.{totalWindows}
+use Rattle.timeline.proofs.Counts.{two-within}
 use Rattle.timeline.specs.declared.segment.Segment.{Segment}
 use Rattle.shortening.specs.Shorten.{firstShort, keeper, joinAt, joinShort, unsettled, shortenedOf, leftIn}
 use Rattle.shortening.proofs.Settles.{one-more, firstShort-within, keeper-within, joinAt-length, joinShort-length, shortened-join, to-join, few-settled, long-settled, shortened-few, left-long, stays}
+use Rattle.shortening.proofs.Counts.{counts-stay}
 use Rattle.records.specs.Records.{Left, left, shortenedIn}
-use Rattle.records.specs.inside.Steps.{joinedRecords}
+use Rattle.records.specs.inside.Steps.{windowsOfTwo, joinedRecords}
 use Rattle.records.proofs.Gap.{records-join}
+use Rattle.records.proofs.Places.{among}
 
 -- these segments shortened in front of others
 abbrev before : Float → List Segment → List Segment → Left
@@ -49,14 +53,15 @@ unfolding shortenedIn
 shortened-is least n l h =
     ap (λ (k : ℕ). left (length (shortenedOf least (take n l))) (leftIn least (take n l) ++ drop k l)) (left-long least (take n l) ∙ length-take-le n l h)
 
--- The loop has come to n segments: what shortening makes of them it makes of the first ones.
+-- The loop has come to n segments: what shortening makes of them it makes of the first ones, and they rest on as many windows.
 pub record Shortening (least : Float) (count : ℕ) (first : List Segment) (n : ℕ) (now : List Segment) : Type 0 where
   pub few : n ≤ count
   pub long : length now ≡ length first
   pub ahead : shortenedIn least n now ≡ shortenedIn least count first
+  pub total : totalWindows (take n now) ≡ totalWindows (take count first)
 
 pub shortening-start : (least : Float) (count : ℕ) (first : List Segment) → Shortening least count first count first
-shortening-start least count first = record { few = omega arith; long = refl; ahead = refl }
+shortening-start least count first = record { few = omega arith; long = refl; ahead = refl; total = refl }
 
 module _ {least : Float} {count : ℕ} {first : List Segment} {n : ℕ} {now : List Segment} (s : Shortening least count first n now) (room : count ≤ length first) where
   abbrev at : List Segment
@@ -78,22 +83,41 @@ module _ {least : Float} {count : ℕ} {first : List Segment} {n : ℕ} {now : L
       let there = keeper-within at i (rw now-many several) (rw now-many h) in
       omega (arith, e, now-many, there)
 
-  join-is : (p : ℕ) → p + 1 < n → p ≡ keeper at (firstShort least at) → T (unsettled least at) → shortenedIn least (n - 1) (joinedRecords p n now) ≡ shortenedIn least n now
-  unfolding joinShort
-  join-is p h e t =
-      let joined = records-join p n now h now-room in
-      let fewer = joinAt-length p at (omega (arith, now-many)) in
-      let many : n - 1 ≡ length (joinAt p at) = omega (arith, fewer, now-many) in
-      let rest = emptied ∷ drop n now in
-      let all : length (joinAt p at ++ rest) ≡ length (joinAt p at) + length rest = length-append (joinAt p at) rest in
-      ap (shortenedIn least (n - 1)) joined
-      ∙ ap (λ (k : ℕ). shortenedIn least k (joinAt p at ++ rest)) many
-      ∙ shortened-is least (length (joinAt p at)) (joinAt p at ++ rest) (omega (arith, all))
-      ∙ ap (λ (l : List Segment). before least l (drop (length (joinAt p at)) (joinAt p at ++ rest))) (take-append-seam (joinAt p at) rest)
-      ∙ ap (before least (joinAt p at)) (drop-append-seam (joinAt p at) rest)
-      ∙ ap (λ (q : ℕ). before least (joinAt q at) rest) e
-      ∙ join-before least at (drop n now) t
-      ∙ sym (shortened-is least n now now-room)
+  module _ (p : ℕ) (there : p + 1 < n) where
+    -- the counts of the two that join fit together where those of all first ones do
+    pub both-fit : totalWindows (take count first) < 2 ^ 32 → windowsOfTwo p now < 2 ^ 32
+    both-fit fits =
+        let two = two-within at p (p + 1) (omega arith) (omega (arith, now-many)) in
+        let earlier = ap (λ (r : Segment). r .windows) (among n p now (omega arith) now-room) in
+        let later = ap (λ (r : Segment). r .windows) (among n (p + 1) now there now-room) in
+        omega (arith, two, earlier, later, s .total, fits)
+
+    abbrev after : List Segment
+    after = joinedRecords p n now
+
+    one-fewer : n - 1 ≡ length (joinAt p at)
+    one-fewer =
+        let one-less = joinAt-length p at (omega (arith, now-many)) in
+        omega (arith, one-less, now-many)
+
+    -- a join leaves the joined ones, and an emptied record behind them
+    front-is : take (n - 1) after ≡ joinAt p at
+    front-is = ap₂ take one-fewer (records-join p n now there now-room) ∙ take-append-seam (joinAt p at) _
+
+    rest-is : drop (n - 1) after ≡ emptied ∷ drop n now
+    rest-is = ap₂ drop one-fewer (records-join p n now there now-room) ∙ drop-append-seam (joinAt p at) _
+
+    join-is : p ≡ keeper at (firstShort least at) → T (unsettled least at) → length after ≡ length now → shortenedIn least (n - 1) after ≡ shortenedIn least n now
+    unfolding joinShort
+    join-is e t long =
+        shortened-is least (n - 1) after (omega (arith, long, now-room))
+        ∙ ap₂ (before least) front-is rest-is
+        ∙ ap (λ (q : ℕ). before least (joinAt q at) (emptied ∷ drop n now)) e
+        ∙ join-before least at (drop n now) t
+        ∙ sym (shortened-is least n now now-room)
+
+    total-is : totalWindows (take (n - 1) after) ≡ totalWindows at
+    total-is = ap totalWindows front-is ∙ counts-stay at .joined p (rw now-many there)
 
   pub shortening-more : {i p : ℕ} → 1 < n → i ≡ firstShort least at → (i ≡ n → ⊥) → p ≡ keeper at i → length (joinedRecords p n now) ≡ length now → Shortening least count first (n - 1) (joinedRecords p n now)
   shortening-more {i} {p} several e inside k long =
@@ -103,7 +127,8 @@ module _ {least : Float} {count : ℕ} {first : List Segment} {n : ℕ} {now : L
       record {
         few = omega (arith, s .few);
         long = long ∙ s .long;
-        ahead = join-is p p-there place (to-join least at (rw now-many several) (omega (arith, now-many, e, i-there))) ∙ s .ahead;
+        ahead = join-is p p-there place (to-join least at (rw now-many several) (omega (arith, now-many, e, i-there))) long ∙ s .ahead;
+        total = total-is p p-there ∙ s .total;
       }
 
   -- ---- the end

@@ -1,7 +1,7 @@
 -- The parameters of the functions over records, and what each function does, as the walks and their callers have it.
 --     double, truth, segment    an f64, a bool and a Segment, as parameters
 use mathlib.Core.Path.{_≡_, refl}
-use Prim.Native.Nat.{_+_, _-_, _≤_, _<_}
+use Prim.Native.Nat.{_+_, _-_, _^_, _≤_, _<_}
 use mathlib.Core.List.{[], _∷_, List}
 use lib.ListN.{length, take}
 use lib.Dec.{T as Holds}
@@ -19,15 +19,16 @@ use denote.Laws.{Is}
 use denote.Struct.Laws as LL
 use Rattle.timeline.specs.declared.segment.Segment.{Segment}
 use Rattle.timeline.specs.Segments.{emptied, short, joined}
+use Rattle.timeline.specs.Counts.{totalWindows}
 use Rattle.timeline.proofs.segment.Segment as T
 use Rattle.timeline.proofs.segment.Segment.Laws as T′
 use Rattle.shortening.specs.Shorten.{firstShort, keeper}
-use Rattle.records.specs.inside.Steps.{movedDown, copiedDown, joinedAt, joinedRecords, placeAfter, keptPlace}
+use Rattle.records.specs.inside.Steps.{movedDown, copiedDown, windowsOfTwo, joinedAt, joinedRecords, placeAfter, keptPlace}
 use Rattle.records.specs.Records.{left, shortenedIn}
 use Rattle.walks.proofs.Plain.{Plain, number}
 use Rattle.walks.proofs.Rows.{Task, Change}
 use Rattle.walks.proofs.Looks.{Look}
-use Rattle.walks.proofs.Values.{Value}
+use Rattle.walks.proofs.Values.{Value, naught, that}
 use Rattle.walks.proofs.Elements.{Element, Read, Write}
 
 abbrev pub R : RattleType
@@ -68,39 +69,39 @@ Copy-down = record { params = number ∷ []; asks = λ κs ys a. a .0 + 1 < leng
 
 -- ---- a join
 abbrev pub Join-segments : Value
-Join-segments = record { params = segment ∷ segment ∷ []; result = segment; is = λ a. joined (a .0) (a .1 .0) }
+Join-segments = record { params = segment ∷ segment ∷ []; result = segment; asks = that (λ a. a .0 .windows + a .1 .0 .windows < 2 ^ 32); is = λ a. joined (a .0) (a .1 .0) }
 
 abbrev pub Emptied-segment : Value
-Emptied-segment = record { params = []; result = segment; is = λ _. emptied }
+Emptied-segment = record { params = []; result = segment; asks = naught; is = λ _. emptied }
 
 abbrev pub Join-at : Change R
-Join-at = record { params = number ∷ []; asks = λ κs ys a. a .0 + 1 < length ys; becomes = λ κs ys a. joinedAt (a .0) ys }
+Join-at = record { params = number ∷ []; asks = λ κs ys a. (a .0 + 1 < length ys) × (windowsOfTwo (a .0) ys < 2 ^ 32); becomes = λ κs ys a. joinedAt (a .0) ys }
 
 abbrev pub Close-gap : Change R
 Close-gap = record { params = number ∷ number ∷ []; asks = λ κs ys a. (a .0 < a .1 .0) × (a .1 .0 ≤ length ys); becomes = λ κs ys a. movedDown (a .0) (a .1 .0) emptied ys }
 
 abbrev pub Join-records : Change R
-Join-records = record { params = number ∷ number ∷ []; asks = λ κs ys a. (a .0 + 1 < a .1 .0) × (a .1 .0 ≤ length ys); becomes = λ κs ys a. joinedRecords (a .0) (a .1 .0) ys }
+Join-records = record { params = number ∷ number ∷ []; asks = λ κs ys a. (a .0 + 1 < a .1 .0) × (a .1 .0 ≤ length ys) × (windowsOfTwo (a .0) ys < 2 ^ 32); becomes = λ κs ys a. joinedRecords (a .0) (a .1 .0) ys }
 
 -- ---- which ones join
 abbrev pub Is-short : Value
-Is-short = record { params = double ∷ segment ∷ []; result = truth; is = λ a. short (a .0) (a .1 .0) }
+Is-short = record { params = double ∷ segment ∷ []; result = truth; asks = naught; is = λ a. short (a .0) (a .1 .0) }
 
 abbrev pub First-short : Look R
 First-short = record { params = double ∷ number ∷ []; result = number; asks = λ κs ys a. a .1 .0 ≤ length ys; promises = λ κs ys a r. r ≡ firstShort (a .0) (take (a .1 .0) ys) }
 
 abbrev pub Place-before : Value
-Place-before = record { params = number ∷ []; result = number; is = λ a. a .0 - 1 }
+Place-before = record { params = number ∷ []; result = number; asks = naught; is = λ a. a .0 - 1 }
 
 abbrev pub Place-after : Value
-Place-after = record { params = number ∷ number ∷ []; result = number; is = λ a. placeAfter (a .0) (a .1 .0) }
+Place-after = record { params = number ∷ number ∷ []; result = number; asks = naught; is = λ a. placeAfter (a .0) (a .1 .0) }
 
 abbrev pub Kept-place : Value
-Kept-place = record { params = number ∷ number ∷ number ∷ segment ∷ segment ∷ []; result = number; is = λ a. keptPlace (a .0) (a .1 .0) (a .1 .1 .0) (a .1 .1 .1 .0) (a .1 .1 .1 .1 .0) }
+Kept-place = record { params = number ∷ number ∷ number ∷ segment ∷ segment ∷ []; result = number; asks = naught; is = λ a. keptPlace (a .0) (a .1 .0) (a .1 .1 .0) (a .1 .1 .1 .0) (a .1 .1 .1 .1 .0) }
 
 abbrev pub Keeper-of : Look R
 Keeper-of = record { params = number ∷ number ∷ []; result = number; asks = λ κs ys a. (a .0 < a .1 .0) × (a .1 .0 ≤ length ys); promises = λ κs ys a r. r ≡ keeper (take (a .1 .0) ys) (a .0) }
 
 -- ---- all of it
 abbrev pub Shorten-records : Task R
-Shorten-records = record { params = double ∷ number ∷ []; result = number; asks = λ κs ys a. a .1 .0 ≤ length ys; promises = λ κs ys a r zs. left r zs ≡ shortenedIn (a .0) (a .1 .0) ys }
+Shorten-records = record { params = double ∷ number ∷ []; result = number; asks = λ κs ys a. (a .1 .0 ≤ length ys) × (totalWindows (take (a .1 .0) ys) < 2 ^ 32); promises = λ κs ys a r zs. left r zs ≡ shortenedIn (a .0) (a .1 .0) ys }

@@ -1,4 +1,4 @@
--- Shortening over records is shortening over rows, leaves no short segment among several, and keeps the tiling. Statements only.
+-- Shortening over records is shortening over rows, leaves no short segment among several, and keeps the tiling and the windows' number. Statements only.
 use mathlib.Core.Path.{_≡_}
 use Prim.Native.Nat.{ℕ, _≤_}
 use mathlib.Core.List.{List}
@@ -7,6 +7,7 @@ use lib.Ieee.{Float}
 use Rattle.timeline.specs.Segments.{SegmentRows, segmentsIn, holdingSegments}
 use Rattle.timeline.specs.inside.Segments.{filledRows}
 use Rattle.timeline.specs.Tiling.{Tiles, NoneShort}
+use Rattle.timeline.specs.Counts.{totalWindows}
 use Rattle.timeline.specs.declared.segment.Segment.{Segment}
 use Rattle.shortening.specs.inside.Settled.{settled}
 use Rattle.records.specs.Records.{Left, shortenedIn}
@@ -28,3 +29,7 @@ NoRecordShort = (least : Float) (count : ℕ) (records : List Segment) → NoneS
 -- records that tile still do
 abbrev pub RecordsTile : Type 0
 RecordsTile = (least duration : Float) (count : ℕ) (records : List Segment) → Tiles duration (take count records) → Tiles duration (leftOf (shortenedIn least count records))
+
+-- the segments that are left rest on as many windows together as those before
+abbrev pub RecordsCount : Type 0
+RecordsCount = (least : Float) (count : ℕ) (records : List Segment) → totalWindows (leftOf (shortenedIn least count records)) ≡ totalWindows (take count records)

@@ -1,12 +1,13 @@
 // Segments in a lent slice of records: two join, the later ones move down, and short ones join their neighbours.
 // `record_at` and `put_record` alone reach into the slice; what is done to a record is done by value.
 ghost use mathlib.Core.Path.{_≡_};
-ghost use Prim.Native.Nat.{_+_, _-_, _<_, _≤_};
+ghost use Prim.Native.Nat.{_+_, _-_, _^_, _<_, _≤_};
 ghost use lib.ListN.{length, set, take};
 ghost use Rattle.timeline.specs.Segments.{emptied, segmentAt};
+ghost use Rattle.timeline.specs.Counts.{totalWindows};
 ghost use Rattle.shortening.specs.Shorten.{firstShort, keeper};
 ghost use Rattle.records.specs.Records.{left, shortenedIn};
-ghost use Rattle.records.specs.inside.Steps.{movedDown, copiedDown, joinedAt, joinedRecords, placeAfter, keptPlace};
+ghost use Rattle.records.specs.inside.Steps.{movedDown, copiedDown, windowsOfTwo, joinedAt, joinedRecords, placeAfter, keptPlace};
 use timeline::segment::Segment;
 use timeline::segment::emptied_segment;
 use timeline::segment::is_short;
@@ -55,7 +56,7 @@ pub fn close_gap(records: &mut [Segment], p: usize, count: usize)
 
 // Record p takes in the one behind it.
 pub fn join_at(records: &mut [Segment], p: usize)
-    requires { ⌜ p + 1 < length (now records) ⌝ }
+    requires { ⌜ (p + 1 < length (now records)) × (windowsOfTwo p (now records) < 2 ^ 32) ⌝ }
     ensures { λ _. ⌜ now (records .exit) ≡ joinedAt p (now (records .entry)) ⌝ }
 {
     let earlier = record_at(records, p);
@@ -66,7 +67,7 @@ pub fn join_at(records: &mut [Segment], p: usize)
 
 // Of the first `count` records, p and p + 1 become one.
 pub fn join_records(records: &mut [Segment], p: usize, count: usize)
-    requires { ⌜ (p + 1 < count) × (count ≤ length (now records)) ⌝ }
+    requires { ⌜ (p + 1 < count) × (count ≤ length (now records)) × (windowsOfTwo p (now records) < 2 ^ 32) ⌝ }
     ensures { λ _. ⌜ now (records .exit) ≡ joinedRecords p count (now (records .entry)) ⌝ }
 {
     join_at(records, p);
@@ -142,7 +143,7 @@ pub fn keeper_of(records: &[Segment], i: usize, count: usize) -> usize
 
 // The Rust's `merge_short_segments`: joins among the first `count` records, and returns how many segments are left.
 pub fn shorten_records(records: &mut [Segment], least: f64, count: usize) -> usize
-    requires { ⌜ count ≤ length (now records) ⌝ }
+    requires { ⌜ (count ≤ length (now records)) × (totalWindows (take count (now records)) < 2 ^ 32) ⌝ }
     ensures { λ r. ⌜ left r (now (records .exit)) ≡ shortenedIn least count (now (records .entry)) ⌝ }
 {
     let mut n = count;

@@ -15,7 +15,7 @@ use Rattle.stored_analyses.specs.Outcome.{sameOutcome}
 use Rattle.replayed_analyses.specs.Analyses.{blank, agrees, recordsIn}
 
 -- each record that is counted ends before the file does
-pub record-there : (bytes : List ℕ) {count : ℕ} (n : ℕ) → count ≡ recordsIn bytes → n < count → 3648 + n * 2404 + 2404 ≤ length bytes
+pub record-there : (bytes : List ℕ) {count : ℕ} (n : ℕ) → count ≡ recordsIn bytes → n < count → 3648 + n * 2424 + 2424 ≤ length bytes
 unfolding recordsIn
 record-there bytes n e h = omega arith
 

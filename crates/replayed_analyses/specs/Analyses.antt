@@ -23,7 +23,7 @@ abbrev pub blank : Lent
 blank =
     lent (rows (zeros 8) (replicate 8 (zeros 12)) (zeros 8)) (zeros 8)
     (estimateRows (zeros 5) (replicate 5 0) (zeros 5) (replicate 5 0))
-    (segmentRows (zeros 5) (zeros 5) (replicate 5 0) (zeros 5))
+    (segmentRows (zeros 5) (zeros 5) (replicate 5 0) (zeros 5) (replicate 5 0))
 
 -- whether the outcome of the record's call is the stored one
 unfoldable pub agrees : List ℕ → ℕ → Bool
@@ -31,11 +31,11 @@ agrees bytes start = sameOutcome bytes start (analysed (callAt bytes start) blan
 
 -- how many records stand behind the sheet
 unfoldable pub recordsIn : List ℕ → ℕ
-recordsIn bytes = (length bytes - 3648) / 2404
+recordsIn bytes = (length bytes - 3648) / 2424
 
 -- one record more
 abbrev pub recordTurn : List ℕ → ℕ → ℕ → ℕ
-recordTurn bytes n differ = cond (not (agrees bytes (3648 + n * 2404))) (differ + 1) differ
+recordTurn bytes n differ = cond (not (agrees bytes (3648 + n * 2424))) (differ + 1) differ
 
 -- how many of them say something else
 unfoldable pub differing : List ℕ → ℕ

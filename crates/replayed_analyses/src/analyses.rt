@@ -29,7 +29,7 @@ fn call_agrees(
     qcoefficients: &[f32],
     qwindows: &[f32],
 ) -> bool
-    requires { ⌜ start + 2404 ≤ length (now bytes) ⌝ }
+    requires { ⌜ start + 2424 ≤ length (now bytes) ⌝ }
     ensures { λ r. ⌜ r ≡ sameOutcome (now (bytes .entry)) start (analysed (given settings head (samples .entry) (window .entry) (coefficients .entry) (weights .entry) (lengths .entry) (qcoefficients .entry) (qwindows .entry)) blank) ⌝ }
 {
     let mut centres = [0.0; 8];
@@ -44,6 +44,7 @@ fn call_agrees(
     let mut ends = [0.0; 5];
     let mut keys = [0; 5];
     let mut confidences = [0.0; 5];
+    let mut counts = [0; 5];
     let answer = analyse(
         settings,
         head,
@@ -66,6 +67,7 @@ fn call_agrees(
         &mut ends,
         &mut keys,
         &mut confidences,
+        &mut counts,
     );
     outcome_agrees(
         bytes,
@@ -83,12 +85,13 @@ fn call_agrees(
         &ends,
         &keys,
         &confidences,
+        &counts,
     )
 }
 
 // Whether the record that starts at `start` tells what an analysis answers and leaves.
 fn record_agrees(bytes: &[u8], start: usize) -> bool
-    requires { ⌜ (3648 ≤ start) × (start + 2404 ≤ length (now bytes)) ⌝ }
+    requires { ⌜ (3648 ≤ start) × (start + 2424 ≤ length (now bytes)) ⌝ }
     ensures { λ r. ⌜ r ≡ agrees (now (bytes .entry)) start ⌝ }
 {
     let settings = settings_at(bytes, start);
@@ -129,7 +132,7 @@ pub fn count_analyses(bytes: &[u8]) -> usize
     if bytes.len() < 3648 {
         return 0;
     }
-    (bytes.len() - 3648) / 2404
+    (bytes.len() - 3648) / 2424
 }
 
 // How many of them say something else.
@@ -140,7 +143,7 @@ pub fn count_differing_analyses(bytes: &[u8]) -> usize
     let mut differ = 0;
     let mut n = 0;
     while n < count {
-        let same = record_agrees(bytes, 3648 + n * 2404);
+        let same = record_agrees(bytes, 3648 + n * 2424);
         n += 1;
         if !same {
             differ += 1;

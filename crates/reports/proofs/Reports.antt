@@ -1,11 +1,15 @@
--- From what was located to the report: the segments are read back from their rows as they were shortened.
+-- From what was located to the report: the segments are read back from their rows as they were shortened, and the keys are named as three columns tell them.
 use mathlib.Core.Path.{_≡_, sym, ap, subst, _∙_}
-use mathlib.Core.List.{List}
+use mathlib.Core.List.{List, map}
 use Prim.Native.Nat.{ℕ}
 use lib.ListN.{length}
+use lib.Ieee.{Float}
+use Rattle.keys.specs.Numbers.{keyNumber}
 use Rattle.calls.specs.declared.Settings.{Settings}
 use Rattle.timeline.specs.Estimates.{EstimateRows, holdingEstimates}
 use Rattle.timeline.specs.Segments.{SegmentRows, segmentsIn}
+use Rattle.timeline.specs.inside.Segments.{stretchesOf, asStretch, stretchesIn}
+use Rattle.timeline.proofs.Segments.{stretches-there}
 use Rattle.timeline.specs.declared.segment.Segment.{Segment}
 use Rattle.windows.specs.Span.{spanOf, windowsOf}
 use Rattle.windows.specs.Run.{estimatesOf}
@@ -18,7 +22,11 @@ use Rattle.segments.specs.inside.Located.{LocatedIn, locatedIn, locatedOf, Prep
 use Rattle.segments.specs.declared.fill.Track.{Track}
 use Rattle.segments.specs.declared.track.Located.{Located}
 use Rattle.segments.proofs.LaidOut.{filled-read-back}
+use Rattle.longest.specs.Longest.{reportedOf}
+use Rattle.longest.proofs.Unread.{reported-unread}
+use Rattle.alternates.proofs.Unread.{alternate-unread}
 use Rattle.answers.specs.Answer.{counts}
+use Rattle.answers.specs.declared.answer.Counts.{Counts}
 use Rattle.answers.specs.declared.answer.AnalyseResult.{AnalyseResult}
 use Rattle.verdicts.specs.declared.verdict.Verdict.{Verdict}
 use Rattle.reports.specs.Report.{namedIn, reportOf}
@@ -33,6 +41,18 @@ told-by s v frames rows located = namedIn (s .«alternate_coverage_threshold») 
 
 abbrev report-by : Settings → Verdict → ℕ → LocatedIn → Reported
 report-by s v frames o = reported (told-by s v frames (o .segments) (o .answer)) (o .estimates) (o .segments)
+
+-- the same by starts, ends and keys alone
+named-unread : (threshold : Float) (v : Verdict) (c : Counts) (segments : List Segment) → namedIn threshold v c (map asStretch segments) ≡ namedIn threshold v c segments
+unfolding namedIn
+named-unread threshold v c segments = rw (reported-unread (v .key) segments, alternate-unread (keyNumber (reportedOf (v .key) segments)) threshold segments)
+
+pub told-so : (s : Settings) (v : Verdict) (frames : ℕ) (rows : SegmentRows) (located : Located) {r : AnalyseResult} → r ≡ namedIn (s .«alternate_coverage_threshold») v (counts frames (located .estimates) (located .segments)) (stretchesIn (stretchesOf rows) (located .segments)) → r ≡ told-by s v frames rows located
+told-so s v frames rows located told =
+    let many = counts frames (located .estimates) (located .segments) in
+    told
+    ∙ ap (namedIn (s .«alternate_coverage_threshold») v many) (stretches-there rows (located .segments))
+    ∙ named-unread (s .«alternate_coverage_threshold») v many (segmentsIn rows (located .segments))
 
 module _ (s : Settings) (count : ℕ) (v : Verdict) (h : Heard) (e : EstimateRows) (before : SegmentRows) where
   -- rows that were filled hold what the report has, and read back as its segments

@@ -1,8 +1,8 @@
 // From the verdict on a track to the answer: segments, the reported key and the alternate key.
 ghost use mathlib.Core.Path.{_≡_};
 ghost use Rattle.timeline.specs.Estimates.{lentEstimates};
-ghost use Rattle.timeline.specs.Segments.{lentSegments, segmentsIn};
-ghost use Rattle.timeline.specs.inside.Segments.{Room};
+ghost use Rattle.timeline.specs.Segments.{lentSegments};
+ghost use Rattle.timeline.specs.inside.Segments.{lentStretches, stretchesIn, Stretched};
 ghost use Rattle.windows.specs.Span.{spanOf};
 ghost use Rattle.gathering.specs.Gather.{heard};
 ghost use Rattle.segments.specs.inside.Located.{Prepared};
@@ -43,23 +43,14 @@ fn name_keys(
     starts: &[f64],
     ends: &[f64],
     keys: &[u8],
-    confidences: &[f32],
 ) -> AnalyseResult
-    requires { ⌜ Room (lentSegments starts ends keys confidences) (counts .segments) ⌝ }
-    ensures { λ r. ⌜ r ≡ namedIn threshold verdict counts (segmentsIn (lentSegments (starts .entry) (ends .entry) (keys .entry) (confidences .entry)) (counts .segments)) ⌝ }
+    requires { ⌜ Stretched (lentStretches starts ends keys) (counts .segments) ⌝ }
+    ensures { λ r. ⌜ r ≡ namedIn threshold verdict counts (stretchesIn (lentStretches (starts .entry) (ends .entry) (keys .entry)) (counts .segments)) ⌝ }
 {
     let classified = verdict.key;
     let segments = counts.segments;
-    let reported = reported_key(classified, segments, starts, ends, keys, confidences);
-    let other = alternate_key(
-        reported,
-        threshold,
-        segments,
-        starts,
-        ends,
-        keys,
-        confidences,
-    );
+    let reported = reported_key(classified, segments, starts, ends, keys);
+    let other = alternate_key(reported, threshold, segments, starts, ends, keys);
     with_alternate(verdict, reported, counts, other)
 }
 
@@ -79,9 +70,10 @@ pub fn report_track(
     ends: &mut [f64],
     keys: &mut [u8],
     confidences: &mut [f32],
+    counts: &mut [u32],
 ) -> AnalyseResult
-    requires { ⌜ Prepared (spanOf settings samples) (heard frames (now centres) (now values)) (lentEstimates middles numbers certainties shapeless) (lentSegments starts ends keys confidences) ⌝ }
-    ensures { λ r. ⌜ reported r (lentEstimates (middles .exit) (numbers .exit) (certainties .exit) (shapeless .exit)) (lentSegments (starts .exit) (ends .exit) (keys .exit) (confidences .exit)) ≡ reportedIn (reportOf settings samples verdict (heard frames (now (centres .entry)) (now (values .entry)))) (lentEstimates (middles .entry) (numbers .entry) (certainties .entry) (shapeless .entry)) (lentSegments (starts .entry) (ends .entry) (keys .entry) (confidences .entry)) ⌝ }
+    requires { ⌜ Prepared (spanOf settings samples) (heard frames (now centres) (now values)) (lentEstimates middles numbers certainties shapeless) (lentSegments starts ends keys confidences counts) ⌝ }
+    ensures { λ r. ⌜ reported r (lentEstimates (middles .exit) (numbers .exit) (certainties .exit) (shapeless .exit)) (lentSegments (starts .exit) (ends .exit) (keys .exit) (confidences .exit) (counts .exit)) ≡ reportedIn (reportOf settings samples verdict (heard frames (now (centres .entry)) (now (values .entry)))) (lentEstimates (middles .entry) (numbers .entry) (certainties .entry) (shapeless .entry)) (lentSegments (starts .entry) (ends .entry) (keys .entry) (confidences .entry) (counts .entry)) ⌝ }
 {
     let span = span_of(settings, samples);
     let track = track_of(settings, span, verdict);
@@ -99,6 +91,7 @@ pub fn report_track(
         ends,
         keys,
         confidences,
+        counts,
     );
     name_keys(
         settings.alternate_coverage_threshold,
@@ -111,6 +104,5 @@ pub fn report_track(
         starts,
         ends,
         keys,
-        confidences,
     )
 }

@@ -19,6 +19,6 @@ abbrev pub lent : Rows → List Float → EstimateRows → SegmentRows → Lent
 lent frames work estimates segments = record { frames = frames; work = work; estimates = estimates; segments = segments }
 
 -- as a contract has it: what the references refer to
-abbrev pub lentAll : RefT (List Float) → RefT (List (List Float)) → RefT (List Float) → RefT (List Float) → RefT (List Float) → RefT (List ℕ) → RefT (List Float) → RefT (List ℕ) → RefT (List Float) → RefT (List Float) → RefT (List ℕ) → RefT (List Float) → Lent
-lentAll centres values energies work middles numbers certainties shapeless starts ends keys confidences =
-    lent (lentRows centres values energies) (now work) (lentEstimates middles numbers certainties shapeless) (lentSegments starts ends keys confidences)
+abbrev pub lentAll : RefT (List Float) → RefT (List (List Float)) → RefT (List Float) → RefT (List Float) → RefT (List Float) → RefT (List ℕ) → RefT (List Float) → RefT (List ℕ) → RefT (List Float) → RefT (List Float) → RefT (List ℕ) → RefT (List Float) → RefT (List ℕ) → Lent
+lentAll centres values energies work middles numbers certainties shapeless starts ends keys confidences counts =
+    lent (lentRows centres values energies) (now work) (lentEstimates middles numbers certainties shapeless) (lentSegments starts ends keys confidences counts)

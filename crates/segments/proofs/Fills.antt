@@ -2,7 +2,7 @@
 use mathlib.Core.Path.{_≡_, refl, sym, ap, subst, _∙_}
 use mathlib.Core.Bool.{true, false}
 use mathlib.Core.List.{List, [], _∷_}
-use Prim.Native.Nat.{ℕ, _<_, _≤_}
+use Prim.Native.Nat.{ℕ, _^_, _<_, _≤_}
 use native.Mathlib.Omega.{arith}
 use lib.Dec.{eqb}
 use lib.ListN.{length}
@@ -12,12 +12,14 @@ use Rattle.laws.specs.Values.{plusZero}
 use Rattle.laws.proofs.Front.{length-list}
 use Rattle.laws.proofs.Column.{column-fits}
 use Rattle.keys.specs.Numbers.{keyNumber}
-use Rattle.timeline.specs.inside.Estimates.{Columns, estimateIn, estimatesIn, Numbered}
+use Rattle.timeline.specs.inside.Estimates.{Columns, estimateIn, estimatesIn, Numbered, Found}
 use Rattle.timeline.specs.Segments.{segment, SegmentRows, segmentsIn, holdingSegments}
+use Rattle.timeline.specs.Counts.{totalWindows}
 use Rattle.timeline.specs.inside.Segments.{putSegment, Room, FilledRows, filledRows, standing}
 use Rattle.timeline.specs.declared.segment.Segment.{Segment}
 use Rattle.timeline.proofs.Segments.{holds-start, holds-more, holds-all, segments-numbered, segments-read-back, held-again}
 use Rattle.groups.specs.Groups.{firstSegments, groupsOf}
+use Rattle.groups.proofs.Counted.{groups-count}
 use Rattle.shortening.specs.Shorten.{shortenedOf, leftIn}
 use Rattle.shortening.specs.inside.Settled.{settled}
 use Rattle.shortening.proofs.Settles.{left-long}
@@ -33,13 +35,19 @@ module _ (t : Track) (rows : Columns) (count : ℕ) where
       e ∙ rw some
 
   -- without one the whole track is one segment
-  pub whole-cut : {after : SegmentRows} (before : SegmentRows) → count ≤ 0 → Room before 1 → after ≡ putSegment (segment plusZero (t .duration) (t .key) (t .confidence)) 0 before → filledRows 1 after ≡ standing (cutOf t (estimatesIn rows count)) before
+  pub whole-cut : {after : SegmentRows} (before : SegmentRows) → count ≤ 0 → Room before 1 → after ≡ putSegment (segment plusZero (t .duration) (t .key) (t .confidence) 0) 0 before → filledRows 1 after ≡ standing (cutOf t (estimatesIn rows count)) before
   unfolding firstSegments
   whole-cut {after} before h room e =
-      let whole = segment plusZero (t .duration) (t .key) (t .confidence) in
+      let whole = segment plusZero (t .duration) (t .key) (t .confidence) 0 in
       let none : eqb (length (estimatesIn rows count)) 0 ≡ true = eq-eqb (length (estimatesIn rows count)) 0 (omega (arith, length-list (estimateIn rows) count)) in
       let held = holds-all (whole ∷ []) before (putSegment whole 0 before) (holds-more [] whole before before 0 refl room (holds-start before)) in
       ap (filledRows 1) (e ∙ held) ∙ rw none
+
+  -- either way they rest on as many windows as there are estimates
+  pub cut-windows : Found rows count → totalWindows (cutOf t (estimatesIn rows count)) < 2 ^ 32
+  cut-windows there =
+      let all = groups-count (t .threshold) (t .duration) (t .key) (t .confidence) (estimatesIn rows count) in
+      omega (arith, all, length-list (estimateIn rows) count, there .few)
 
 -- as many places as the segments take are there
 pub held-room : (segments : List Segment) (before : SegmentRows) → Room (holdingSegments segments before) (length segments)
@@ -49,6 +57,7 @@ held-room segments before =
       ends = column-fits (λ (s : Segment). s .end) segments (before .ends);
       keys = column-fits (λ (s : Segment). keyNumber (s .key)) segments (before .keys);
       confidences = column-fits (λ (s : Segment). s .confidence) segments (before .confidences);
+      counts = column-fits (λ (s : Segment). s .windows) segments (before .counts);
     }
 
 module _ {count : ℕ} {mid : SegmentRows} (segments : List Segment) (before : SegmentRows) (cut : filledRows count mid ≡ standing segments before) where
@@ -63,6 +72,9 @@ module _ {count : ℕ} {mid : SegmentRows} (segments : List Segment) (before : S
 
   pub cut-numbered : Numbered (mid .keys) count
   cut-numbered = subst (λ (f : FilledRows). Numbered (f .rows .keys) (f .count)) (sym cut) (segments-numbered segments before)
+
+  pub cut-few : totalWindows segments < 2 ^ 32 → totalWindows (segmentsIn mid count) < 2 ^ 32
+  cut-few h = rw (ap (λ (f : FilledRows). segmentsIn (f .rows) (f .count)) cut ∙ segments-read-back segments before) h
 
   pub settled-same : {out : FilledRows} (least : Float) → out ≡ settled least (segmentsIn mid count) mid → out ≡ settled least segments before
   settled-same least e =

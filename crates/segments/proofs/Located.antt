@@ -31,6 +31,7 @@ settled-room least segments before =
       ends = omega (arith, room .ends, all);
       keys = omega (arith, room .keys, all);
       confidences = omega (arith, room .confidences, all);
+      counts = omega (arith, room .counts, all);
     }
 
 pub located-room : (s : Span) (t : Track) (h : Heard) (e : EstimateRows) (before : SegmentRows) {located : Located} {e' : EstimateRows} {rows : SegmentRows} → locatedIn located e' rows ≡ locatedOf s t h e before → Room rows (located .segments)

@@ -64,6 +64,7 @@ module _ (s : Span) (h : Heard) (before : EstimateRows) {windows n : ℕ} {rows 
           ends = omega (arith, count, few, ready .room .ends);
           keys = omega (arith, count, few, ready .room .keys);
           confidences = omega (arith, count, few, ready .room .confidences);
+          counts = omega (arith, count, few, ready .room .counts);
         },
         ready .one,
       )

@@ -1,4 +1,4 @@
--- Demand 3 on segments: they tile the track, and of several none is short. Statements only.
+-- Demand 3 on segments: they tile the track, and of several none is short; and on how many windows they rest. Statements only.
 use mathlib.Core.Path.{_≡_}
 use Prim.Native.Nat.{_≤_}
 use mathlib.Core.List.{List}
@@ -10,6 +10,7 @@ use Rattle.timeline.specs.Estimates.{Rising}
 use Rattle.timeline.specs.declared.estimate.Estimate.{Estimate}
 use Rattle.timeline.specs.declared.segment.Segment.{Segment}
 use Rattle.timeline.specs.Tiling.{Tiles, NoneShort}
+use Rattle.timeline.specs.Counts.{totalWindows}
 use Rattle.windows.specs.Span.{budgetFor}
 use Rattle.windows.specs.Run.{estimatesOf}
 use Rattle.gathering.specs.Gather.{Heard}
@@ -26,7 +27,11 @@ SegmentsTile = (t : Track) (found : List Estimate) → Modest binary64 (t .durat
 abbrev pub NoSegmentShort : Type 0
 NoSegmentShort = (t : Track) (found : List Estimate) → NoneShort (t .minimum) (segmentsOf t found)
 
--- both of them, and the segments are no more than the budget has windows
+-- the segments of any estimates, and of none, rest on all of them together
+abbrev pub SegmentsCount : Type 0
+SegmentsCount = (t : Track) (found : List Estimate) → totalWindows (segmentsOf t found) ≡ length found
+
+-- the first two, and the segments are no more than the budget has windows
 pub record LaidOut (duration least : Float) (segments : List Segment) : Type 0 where
   pub tiles : Tiles duration segments
   pub none-short : NoneShort least segments

@@ -32,9 +32,10 @@ fn cut_track(
     ends: &mut [f64],
     keys: &mut [u8],
     confidences: &mut [f32],
+    counts: &mut [u32],
 ) -> usize
-    requires { ⌜ Found (lentColumns middles numbers certainties) found × Room (lentSegments starts ends keys confidences) found × Room (lentSegments starts ends keys confidences) 1 ⌝ }
-    ensures { λ r. ⌜ filledRows r (lentSegments (starts .exit) (ends .exit) (keys .exit) (confidences .exit)) ≡ standing (cutOf track (estimatesIn (lentColumns (middles .entry) (numbers .entry) (certainties .entry)) found)) (lentSegments (starts .entry) (ends .entry) (keys .entry) (confidences .entry)) ⌝ }
+    requires { ⌜ Found (lentColumns middles numbers certainties) found × Room (lentSegments starts ends keys confidences counts) found × Room (lentSegments starts ends keys confidences counts) 1 ⌝ }
+    ensures { λ r. ⌜ filledRows r (lentSegments (starts .exit) (ends .exit) (keys .exit) (confidences .exit) (counts .exit)) ≡ standing (cutOf track (estimatesIn (lentColumns (middles .entry) (numbers .entry) (certainties .entry)) found)) (lentSegments (starts .entry) (ends .entry) (keys .entry) (confidences .entry) (counts .entry)) ⌝ }
 {
     if found > 0 {
         return cut_groups(
@@ -48,6 +49,7 @@ fn cut_track(
             ends,
             keys,
             confidences,
+            counts,
         );
     }
     let key = track.key;
@@ -56,8 +58,9 @@ fn cut_track(
         end: track.duration,
         key,
         confidence: track.confidence,
+        windows: 0,
     };
-    put_segment(whole, 0, starts, ends, keys, confidences);
+    put_segment(whole, 0, starts, ends, keys, confidences, counts);
     1
 }
 
@@ -72,9 +75,10 @@ pub fn fill_segments(
     ends: &mut [f64],
     keys: &mut [u8],
     confidences: &mut [f32],
+    counts: &mut [u32],
 ) -> usize
-    requires { ⌜ Found (lentColumns middles numbers certainties) found × Room (lentSegments starts ends keys confidences) found × Room (lentSegments starts ends keys confidences) 1 ⌝ }
-    ensures { λ r. ⌜ filledRows r (lentSegments (starts .exit) (ends .exit) (keys .exit) (confidences .exit)) ≡ filledOf track (estimatesIn (lentColumns (middles .entry) (numbers .entry) (certainties .entry)) found) (lentSegments (starts .entry) (ends .entry) (keys .entry) (confidences .entry)) ⌝ }
+    requires { ⌜ Found (lentColumns middles numbers certainties) found × Room (lentSegments starts ends keys confidences counts) found × Room (lentSegments starts ends keys confidences counts) 1 ⌝ }
+    ensures { λ r. ⌜ filledRows r (lentSegments (starts .exit) (ends .exit) (keys .exit) (confidences .exit) (counts .exit)) ≡ filledOf track (estimatesIn (lentColumns (middles .entry) (numbers .entry) (certainties .entry)) found) (lentSegments (starts .entry) (ends .entry) (keys .entry) (confidences .entry) (counts .entry)) ⌝ }
 {
     let count = cut_track(
         track,
@@ -86,6 +90,15 @@ pub fn fill_segments(
         ends,
         keys,
         confidences,
+        counts,
     );
-    shorten_segments(track.minimum, count, starts, ends, keys, confidences)
+    shorten_segments(
+        track.minimum,
+        count,
+        starts,
+        ends,
+        keys,
+        confidences,
+        counts,
+    )
 }

@@ -31,9 +31,10 @@ pub fn locate_segments(
     ends: &mut [f64],
     keys: &mut [u8],
     confidences: &mut [f32],
+    counts: &mut [u32],
 ) -> Located
-    requires { ⌜ Prepared span (heard frames (now centres) (now values)) (lentEstimates middles numbers certainties shapeless) (lentSegments starts ends keys confidences) ⌝ }
-    ensures { λ r. ⌜ locatedIn r (lentEstimates (middles .exit) (numbers .exit) (certainties .exit) (shapeless .exit)) (lentSegments (starts .exit) (ends .exit) (keys .exit) (confidences .exit)) ≡ locatedOf span track (heard frames (now (centres .entry)) (now (values .entry))) (lentEstimates (middles .entry) (numbers .entry) (certainties .entry) (shapeless .entry)) (lentSegments (starts .entry) (ends .entry) (keys .entry) (confidences .entry)) ⌝ }
+    requires { ⌜ Prepared span (heard frames (now centres) (now values)) (lentEstimates middles numbers certainties shapeless) (lentSegments starts ends keys confidences counts) ⌝ }
+    ensures { λ r. ⌜ locatedIn r (lentEstimates (middles .exit) (numbers .exit) (certainties .exit) (shapeless .exit)) (lentSegments (starts .exit) (ends .exit) (keys .exit) (confidences .exit) (counts .exit)) ≡ locatedOf span track (heard frames (now (centres .entry)) (now (values .entry))) (lentEstimates (middles .entry) (numbers .entry) (certainties .entry) (shapeless .entry)) (lentSegments (starts .entry) (ends .entry) (keys .entry) (confidences .entry) (counts .entry)) ⌝ }
 {
     let windows = count_windows(span);
     let estimates = fill_estimates(
@@ -57,6 +58,7 @@ pub fn locate_segments(
         ends,
         keys,
         confidences,
+        counts,
     );
     Located {
         estimates,

@@ -50,6 +50,7 @@ pub record Emptying (from count : ℕ) (before now : SegmentRows) (i : ℕ) : Ty
   pub ends : Emptied from (emptied .end) (before .ends) (now .ends) i
   pub keys : Emptied from (keyNumber (emptied .key)) (before .keys) (now .keys) i
   pub confidences : Emptied from (emptied .confidence) (before .confidences) (now .confidences) i
+  pub counts : Emptied from (emptied .windows) (before .counts) (now .counts) i
 
 pub emptying-start : {from count : ℕ} (before : SegmentRows) → from ≤ count → Room before count → Emptying from count before before from
 emptying-start {from} before h room =
@@ -61,6 +62,7 @@ emptying-start {from} before h room =
       ends = emptied-start _ _ _;
       keys = emptied-start _ _ _;
       confidences = emptied-start _ _ _;
+      counts = emptied-start _ _ _;
     }
 
 module _ {from count : ℕ} {before now : SegmentRows} {i : ℕ} (e : Emptying from count before now i) where
@@ -73,9 +75,10 @@ module _ {from count : ℕ} {before now : SegmentRows} {i : ℕ} (e : Emptying f
     ends = emptied-more _ _ (e .ends) (e .since) (omega (arith, e .room .ends));
     keys = emptied-more _ _ (e .keys) (e .since) (omega (arith, e .room .keys));
     confidences = emptied-more _ _ (e .confidences) (e .since) (omega (arith, e .room .confidences));
+    counts = emptied-more _ _ (e .counts) (e .since) (omega (arith, e .room .counts));
   })
 
   pub emptying-end : count ≤ i → now ≡ emptiedRows from count before
   emptying-end h =
       let all : i ≡ count = omega (arith, e .upto) in
-      same-rows (e .starts .here) (e .ends .here) (e .keys .here) (e .confidences .here) ∙ ap (λ (k : ℕ). emptiedRows from k before) all
+      same-rows (e .starts .here) (e .ends .here) (e .keys .here) (e .confidences .here) (e .counts .here) ∙ ap (λ (k : ℕ). emptiedRows from k before) all

@@ -1,5 +1,6 @@
 -- What the functions' proofs share, and the theorems on shortening.
 pub mod Settles
+pub mod Counts
 mod Searches
 mod Apart
 mod Empties

@@ -1,3 +1,4 @@
 pub mod Shorten
 pub mod Ends
+pub mod Counts
 pub mod inside

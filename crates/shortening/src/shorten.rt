@@ -2,38 +2,34 @@
 // No segment before the first short one is short, so joining begins there and the search is done once: after that, rows before a gap are settled but
 // perhaps for the last, and rows behind it are unread.
 ghost use mathlib.Core.Path.{_≡_};
-ghost use Prim.Native.Nat.{_+_, _<_, _≤_};
+ghost use Prim.Native.Nat.{_+_, _-_, _^_, _<_, _≤_};
+ghost use lib.ListN.{length};
 ghost use Rattle.timeline.specs.inside.Estimates.{Numbered};
 ghost use Rattle.timeline.specs.Segments.{lentSegments, segmentsIn};
+ghost use Rattle.timeline.specs.Counts.{totalWindows};
 ghost use Rattle.timeline.specs.inside.Segments.{Room, filledRows};
-ghost use Rattle.shortening.specs.Shorten.{firstShort};
 ghost use Rattle.shortening.specs.inside.Settled.{settled};
-ghost use Rattle.shortening.specs.inside.Gap.{joinsBack, joinedRows, takenIn, emptiedRows};
+ghost use Rattle.shortening.specs.inside.Lengths.{firstShortIn, joinsBack};
+ghost use Rattle.shortening.specs.inside.Gap.{Joinable, joinedRows, takenIn, emptiedRows};
 use timeline::segment::emptied_segment;
 use timeline::segment::is_short;
+use timeline::segment::is_short_row;
 use timeline::segment::join_segments;
 use timeline::segment::put_segment;
+use timeline::segment::row_seconds;
 use timeline::segment::segment_at;
-use timeline::segment::segment_seconds;
 
 // Where the first short segment stands: the count where none is short.
-fn first_short(
-    least: f64,
-    count: usize,
-    starts: &[f64],
-    ends: &[f64],
-    keys: &[u8],
-    confidences: &[f32],
-) -> usize
-    requires { ⌜ Room (lentSegments starts ends keys confidences) count ⌝ }
-    ensures { λ r. ⌜ r ≡ firstShort least (segmentsIn (lentSegments (starts .entry) (ends .entry) (keys .entry) (confidences .entry)) count) ⌝ }
+fn first_short(least: f64, count: usize, starts: &[f64], ends: &[f64]) -> usize
+    requires { ⌜ (count ≤ length (now starts)) × (count ≤ length (now ends)) ⌝ }
+    ensures { λ r. ⌜ r ≡ firstShortIn least (now (starts .entry)) (now (ends .entry)) count ⌝ }
 {
     let mut i = 0;
     loop {
         if i >= count {
             break count;
         }
-        if is_short(least, segment_at(i, starts, ends, keys, confidences)) {
+        if is_short_row(least, i, starts, ends) {
             break i;
         }
         i += 1;
@@ -48,15 +44,12 @@ fn joins_back(
     count: usize,
     starts: &[f64],
     ends: &[f64],
-    keys: &[u8],
-    confidences: &[f32],
 ) -> bool
-    requires { ⌜ (0 < done) × (done ≤ next) × (next ≤ count) × Room (lentSegments starts ends keys confidences) count ⌝ }
-    ensures { λ r. ⌜ r ≡ joinsBack least done next count (lentSegments (starts .entry) (ends .entry) (keys .entry) (confidences .entry)) ⌝ }
+    requires { ⌜ (0 < done) × (done ≤ next) × (next ≤ count) × (count ≤ length (now starts)) × (count ≤ length (now ends)) ⌝ }
+    ensures { λ r. ⌜ r ≡ joinsBack least done next count (now (starts .entry)) (now (ends .entry)) ⌝ }
 {
     let last = done - 1;
-    let current = segment_at(last, starts, ends, keys, confidences);
-    if !is_short(least, current) {
+    if !is_short_row(least, last, starts, ends) {
         return false;
     }
     if last == 0 {
@@ -66,8 +59,8 @@ fn joins_back(
         return true;
     }
     let before = last - 1;
-    let earlier = segment_seconds(segment_at(before, starts, ends, keys, confidences));
-    let later = segment_seconds(segment_at(next, starts, ends, keys, confidences));
+    let earlier = row_seconds(before, starts, ends);
+    let later = row_seconds(next, starts, ends);
     later <= earlier
 }
 
@@ -78,13 +71,14 @@ fn join_rows(
     ends: &mut [f64],
     keys: &mut [u8],
     confidences: &mut [f32],
+    counts: &mut [u32],
 )
-    requires { ⌜ Room (lentSegments starts ends keys confidences) (p + 2) ⌝ }
-    ensures { λ _. ⌜ lentSegments (starts .exit) (ends .exit) (keys .exit) (confidences .exit) ≡ joinedRows p (lentSegments (starts .entry) (ends .entry) (keys .entry) (confidences .entry)) ⌝ }
+    requires { ⌜ Room (lentSegments starts ends keys confidences counts) (p + 2) × Joinable p (p + 1) (lentSegments starts ends keys confidences counts) ⌝ }
+    ensures { λ _. ⌜ lentSegments (starts .exit) (ends .exit) (keys .exit) (confidences .exit) (counts .exit) ≡ joinedRows p (lentSegments (starts .entry) (ends .entry) (keys .entry) (confidences .entry) (counts .entry)) ⌝ }
 {
     let next = p + 1;
-    let earlier = segment_at(p, starts, ends, keys, confidences);
-    let later = segment_at(next, starts, ends, keys, confidences);
+    let earlier = segment_at(p, starts, ends, keys, confidences, counts);
+    let later = segment_at(next, starts, ends, keys, confidences, counts);
     put_segment(
         join_segments(earlier, later),
         p,
@@ -92,6 +86,7 @@ fn join_rows(
         ends,
         keys,
         confidences,
+        counts,
     );
 }
 
@@ -104,19 +99,20 @@ fn take_in(
     ends: &mut [f64],
     keys: &mut [u8],
     confidences: &mut [f32],
+    counts: &mut [u32],
 ) -> usize
-    requires { ⌜ (0 < done) × (done ≤ next) × Room (lentSegments starts ends keys confidences) (next + 1) ⌝ }
-    ensures { λ r. ⌜ filledRows r (lentSegments (starts .exit) (ends .exit) (keys .exit) (confidences .exit)) ≡ takenIn least done next (lentSegments (starts .entry) (ends .entry) (keys .entry) (confidences .entry)) ⌝ }
+    requires { ⌜ (0 < done) × (done ≤ next) × Room (lentSegments starts ends keys confidences counts) (next + 1) × Joinable (done - 1) next (lentSegments starts ends keys confidences counts) ⌝ }
+    ensures { λ r. ⌜ filledRows r (lentSegments (starts .exit) (ends .exit) (keys .exit) (confidences .exit) (counts .exit)) ≡ takenIn least done next (lentSegments (starts .entry) (ends .entry) (keys .entry) (confidences .entry) (counts .entry)) ⌝ }
 {
     let last = done - 1;
-    let current = segment_at(last, starts, ends, keys, confidences);
-    let following = segment_at(next, starts, ends, keys, confidences);
+    let current = segment_at(last, starts, ends, keys, confidences, counts);
+    let following = segment_at(next, starts, ends, keys, confidences, counts);
     if is_short(least, current) {
         let both = join_segments(current, following);
-        put_segment(both, last, starts, ends, keys, confidences);
+        put_segment(both, last, starts, ends, keys, confidences, counts);
         return done;
     }
-    put_segment(following, done, starts, ends, keys, confidences);
+    put_segment(following, done, starts, ends, keys, confidences, counts);
     done + 1
 }
 
@@ -128,13 +124,22 @@ fn empty_rows(
     ends: &mut [f64],
     keys: &mut [u8],
     confidences: &mut [f32],
+    counts: &mut [u32],
 )
-    requires { ⌜ (from ≤ count) × Room (lentSegments starts ends keys confidences) count ⌝ }
-    ensures { λ _. ⌜ lentSegments (starts .exit) (ends .exit) (keys .exit) (confidences .exit) ≡ emptiedRows from count (lentSegments (starts .entry) (ends .entry) (keys .entry) (confidences .entry)) ⌝ }
+    requires { ⌜ (from ≤ count) × Room (lentSegments starts ends keys confidences counts) count ⌝ }
+    ensures { λ _. ⌜ lentSegments (starts .exit) (ends .exit) (keys .exit) (confidences .exit) (counts .exit) ≡ emptiedRows from count (lentSegments (starts .entry) (ends .entry) (keys .entry) (confidences .entry) (counts .entry)) ⌝ }
 {
     let mut i = from;
     while i < count {
-        put_segment(emptied_segment(), i, starts, ends, keys, confidences);
+        put_segment(
+            emptied_segment(),
+            i,
+            starts,
+            ends,
+            keys,
+            confidences,
+            counts,
+        );
         i += 1;
     }
 }
@@ -147,11 +152,12 @@ pub fn shorten_segments(
     ends: &mut [f64],
     keys: &mut [u8],
     confidences: &mut [f32],
+    counts: &mut [u32],
 ) -> usize
-    requires { ⌜ Room (lentSegments starts ends keys confidences) count × Numbered (now keys) count ⌝ }
-    ensures { λ r. ⌜ filledRows r (lentSegments (starts .exit) (ends .exit) (keys .exit) (confidences .exit)) ≡ settled least (segmentsIn (lentSegments (starts .entry) (ends .entry) (keys .entry) (confidences .entry)) count) (lentSegments (starts .entry) (ends .entry) (keys .entry) (confidences .entry)) ⌝ }
+    requires { ⌜ Room (lentSegments starts ends keys confidences counts) count × Numbered (now keys) count × (totalWindows (segmentsIn (lentSegments starts ends keys confidences counts) count) < 2 ^ 32) ⌝ }
+    ensures { λ r. ⌜ filledRows r (lentSegments (starts .exit) (ends .exit) (keys .exit) (confidences .exit) (counts .exit)) ≡ settled least (segmentsIn (lentSegments (starts .entry) (ends .entry) (keys .entry) (confidences .entry) (counts .entry)) count) (lentSegments (starts .entry) (ends .entry) (keys .entry) (confidences .entry) (counts .entry)) ⌝ }
 {
-    let first = first_short(least, count, starts, ends, keys, confidences);
+    let first = first_short(least, count, starts, ends);
     // none is short: the rows stay as they are
     if first == count {
         return count;
@@ -159,17 +165,17 @@ pub fn shorten_segments(
     let mut done = first + 1;
     let mut next = first + 1;
     loop {
-        if joins_back(least, done, next, count, starts, ends, keys, confidences) {
+        if joins_back(least, done, next, count, starts, ends) {
             done = done - 1;
-            join_rows(done - 1, starts, ends, keys, confidences);
+            join_rows(done - 1, starts, ends, keys, confidences, counts);
         } else {
             if next == count {
                 break;
             }
-            done = take_in(least, done, next, starts, ends, keys, confidences);
+            done = take_in(least, done, next, starts, ends, keys, confidences, counts);
             next = next + 1;
         }
     }
-    empty_rows(done, count, starts, ends, keys, confidences);
+    empty_rows(done, count, starts, ends, keys, confidences, counts);
     done
 }

@@ -55,17 +55,17 @@ rowB = record { letter = 98; holds = mostAre (7 ∷ 0 ∷ 0 ∷ 7 ∷ []) 0 }
 abbrev pub whole : ℕ → Float
 whole n = ofInt binary64 (pos n)
 
--- [start, end) key, of confidence 0
-abbrev pub part : ℕ → ℕ → ℕ → Segment
-part start end number = segment (whole start) (whole end) (keyAt number) plusZero
+-- [start, end) key, of confidence 0, resting on so many windows (02 §7)
+abbrev pub part : ℕ → ℕ → ℕ → ℕ → Segment
+part start end number windows = segment (whole start) (whole end) (keyAt number) plusZero windows
 
 -- two times are equal, by their patterns
 abbrev pub sameTime : Float → Float → Bool
 sameTime x y = eqb (toBits binary64 x) (toBits binary64 y)
 
--- two segments have the same start, end and key
+-- two segments have the same start, end and key, and rest on as many windows
 abbrev pub sameSegment : Segment → Segment → Bool
-sameSegment s t = sameTime (s .start) (t .start) && sameTime (s .end) (t .end) && sameKey (s .key) (t .key)
+sameSegment s t = sameTime (s .start) (t .start) && sameTime (s .end) (t .end) && sameKey (s .key) (t .key) && eqb (s .windows) (t .windows)
 
 -- two lists of segments do
 abbrev pub sameSegments : List Segment → List Segment → Bool
@@ -77,23 +77,23 @@ shortens before after = sameSegments (shortenedOf (whole 12) before) after
 
 -- the first is short: it joins the second, and keeps its own key
 unfoldable pub rowC : Row
-rowC = record { letter = 99; holds = shortens (part 0 10 0 ∷ part 10 40 7 ∷ part 40 70 9 ∷ []) (part 0 40 0 ∷ part 40 70 9 ∷ []) }
+rowC = record { letter = 99; holds = shortens (part 0 10 0 1 ∷ part 10 40 7 2 ∷ part 40 70 9 4 ∷ []) (part 0 40 0 3 ∷ part 40 70 9 4 ∷ []) }
 
 -- neighbours as long as each other: the earlier one
 unfoldable pub rowD : Row
-rowD = record { letter = 100; holds = shortens (part 0 30 0 ∷ part 30 40 7 ∷ part 40 70 9 ∷ []) (part 0 40 0 ∷ part 40 70 9 ∷ []) }
+rowD = record { letter = 100; holds = shortens (part 0 30 0 1 ∷ part 30 40 7 2 ∷ part 40 70 9 4 ∷ []) (part 0 40 0 3 ∷ part 40 70 9 4 ∷ []) }
 
 -- the later neighbour is longer, and the short one's key stays
 unfoldable pub rowE : Row
-rowE = record { letter = 101; holds = shortens (part 0 20 0 ∷ part 20 30 7 ∷ part 30 70 9 ∷ []) (part 0 20 0 ∷ part 20 70 7 ∷ []) }
+rowE = record { letter = 101; holds = shortens (part 0 20 0 1 ∷ part 20 30 7 2 ∷ part 30 70 9 4 ∷ []) (part 0 20 0 1 ∷ part 20 70 7 6 ∷ []) }
 
 -- the last is short
 unfoldable pub rowF : Row
-rowF = record { letter = 102; holds = shortens (part 0 30 0 ∷ part 30 40 7 ∷ []) (part 0 40 0 ∷ []) }
+rowF = record { letter = 102; holds = shortens (part 0 30 0 1 ∷ part 30 40 7 2 ∷ []) (part 0 40 0 3 ∷ []) }
 
 -- none is shorter than the minimum
 unfoldable pub rowG : Row
-rowG = record { letter = 103; holds = shortens (part 0 12 0 ∷ part 12 24 7 ∷ []) (part 0 12 0 ∷ part 12 24 7 ∷ []) }
+rowG = record { letter = 103; holds = shortens (part 0 12 0 1 ∷ part 12 24 7 2 ∷ []) (part 0 12 0 1 ∷ part 12 24 7 2 ∷ []) }
 
 -- ---- h to j: the alternate key
 -- 0.25
@@ -110,15 +110,15 @@ names segments number coverage = answers number coverage (alternateOf 0 (ofBits 
 
 -- a coverage at the threshold
 unfoldable pub rowH : Row
-rowH = record { letter = 104; holds = names (part 0 45 0 ∷ part 45 60 7 ∷ []) 7 aQuarter }
+rowH = record { letter = 104; holds = names (part 0 45 0 1 ∷ part 45 60 7 2 ∷ []) 7 aQuarter }
 
 -- equal seconds: the key first met last
 unfoldable pub rowI : Row
-rowI = record { letter = 105; holds = names (part 0 30 0 ∷ part 30 45 7 ∷ part 45 60 9 ∷ []) 9 aQuarter }
+rowI = record { letter = 105; holds = names (part 0 30 0 1 ∷ part 30 45 7 2 ∷ part 45 60 9 4 ∷ []) 9 aQuarter }
 
 -- a coverage below the threshold: none
 unfoldable pub rowJ : Row
-rowJ = record { letter = 106; holds = names (part 0 46 0 ∷ part 46 60 7 ∷ []) noKey 0 }
+rowJ = record { letter = 106; holds = names (part 0 46 0 1 ∷ part 46 60 7 2 ∷ []) noKey 0 }
 
 -- ---- k: windows cut into groups
 -- a window: its centre in seconds, its key number, and the pattern of its confidence
@@ -134,7 +134,7 @@ unfoldable pub rowK : Row
 rowK =
     record {
       letter = 107;
-      holds = groups (window 6 0 0x3f66_6666 ∷ window 12 0 0x3f66_6666 ∷ window 18 7 0x3eae_147b ∷ window 24 7 0x3f66_6666 ∷ []) (part 0 30 7 ∷ []);
+      holds = groups (window 6 0 0x3f66_6666 ∷ window 12 0 0x3f66_6666 ∷ window 18 7 0x3eae_147b ∷ window 24 7 0x3f66_6666 ∷ []) (part 0 30 7 4 ∷ []);
     }
 
 -- ---- l: a chroma shifted by half a bin
@@ -192,7 +192,7 @@ rowO = record { letter = 111; holds = writes aMinor (0x1a ∷ 0xd7 ∷ 0x00 ∷ 
 
 -- the empty analysis: the answer without a refusal, a key or a row
 abbrev pub emptyAnalysis : Analysis
-emptyAnalysis = cardOfAnswer (keyless 0 0 0) (segmentRows [] [] [] [])
+emptyAnalysis = cardOfAnswer (keyless 0 0 0) (segmentRows [] [] [] [] [])
 
 -- its card
 unfoldable pub rowP : Row

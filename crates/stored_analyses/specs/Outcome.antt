@@ -27,6 +27,7 @@ pub record Sized (l : Lent) : Type 0 where
   pub ends : length (l .segments .ends) ≡ 5
   pub keys : length (l .segments .keys) ≡ 5
   pub confidences : length (l .segments .confidences) ≡ 5
+  pub counts : length (l .segments .counts) ≡ 5
 
 -- the answer's whole numbers, then its values
 unfoldable pub sameAnswer : List ℕ → ℕ → AnalyseResult → Bool
@@ -58,6 +59,7 @@ sameSegments bytes at r =
     && sameTimes bytes (at + 40) (r .ends)
     && sameNumbers bytes (at + 80) (r .keys)
     && sameValues bytes (at + 100) (r .confidences)
+    && sameNumbers bytes (at + 120) (r .counts)
 
 -- all that a call answers and leaves, behind the record's settings and samples
 unfoldable pub sameOutcome : List ℕ → ℕ → AnalyseOutcome → Bool

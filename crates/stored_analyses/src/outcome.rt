@@ -75,6 +75,20 @@ fn estimates_agree(
         & numbers_agree(bytes, at + 80, shapeless)
 }
 
+// The counts of five segments, as numbers of 64 bits.
+fn widened(counts: &[u32]) -> [u64; 5]
+    requires { ⌜ length (now counts) ≡ 5 ⌝ }
+    ensures { λ r. ⌜ r ≡ now (counts .entry) ⌝ }
+{
+    [
+        counts[0] as u64,
+        counts[1] as u64,
+        counts[2] as u64,
+        counts[3] as u64,
+        counts[4] as u64,
+    ]
+}
+
 // Whether these are the segments from `at` on.
 fn segments_agree(
     bytes: &[u8],
@@ -83,14 +97,17 @@ fn segments_agree(
     ends: &[f64],
     keys: &[u8],
     confidences: &[f32],
+    counts: &[u32],
 ) -> bool
-    requires { ⌜ (at + 120 ≤ length (now bytes)) × (length (now starts) ≡ 5) × (length (now ends) ≡ 5) × (length (now keys) ≡ 5) × (length (now confidences) ≡ 5) ⌝ }
-    ensures { λ r. ⌜ r ≡ sameSegments (now (bytes .entry)) at (lentSegments (starts .entry) (ends .entry) (keys .entry) (confidences .entry)) ⌝ }
+    requires { ⌜ (at + 140 ≤ length (now bytes)) × (length (now starts) ≡ 5) × (length (now ends) ≡ 5) × (length (now keys) ≡ 5) × (length (now confidences) ≡ 5) × (length (now counts) ≡ 5) ⌝ }
+    ensures { λ r. ⌜ r ≡ sameSegments (now (bytes .entry)) at (lentSegments (starts .entry) (ends .entry) (keys .entry) (confidences .entry) (counts .entry)) ⌝ }
 {
+    let windows = widened(counts);
     times_agree(bytes, at, starts)
         & times_agree(bytes, at + 40, ends)
         & numbers_agree(bytes, at + 80, keys)
         & values_agree(bytes, at + 100, confidences)
+        & counts_agree(bytes, at + 120, &windows)
 }
 
 // Whether this is what the record says that a call answers and leaves.
@@ -110,9 +127,10 @@ pub fn outcome_agrees(
     ends: &[f64],
     keys: &[u8],
     confidences: &[f32],
+    counts: &[u32],
 ) -> bool
-    requires { ⌜ (start + 2404 ≤ length (now bytes)) × Sized (lentAll centres values energies work middles numbers certainties shapeless starts ends keys confidences) ⌝ }
-    ensures { λ r. ⌜ r ≡ sameOutcome (now (bytes .entry)) start (analyseOutcome answer (lentAll (centres .entry) (values .entry) (energies .entry) (work .entry) (middles .entry) (numbers .entry) (certainties .entry) (shapeless .entry) (starts .entry) (ends .entry) (keys .entry) (confidences .entry))) ⌝ }
+    requires { ⌜ (start + 2424 ≤ length (now bytes)) × Sized (lentAll centres values energies work middles numbers certainties shapeless starts ends keys confidences counts) ⌝ }
+    ensures { λ r. ⌜ r ≡ sameOutcome (now (bytes .entry)) start (analyseOutcome answer (lentAll (centres .entry) (values .entry) (energies .entry) (work .entry) (middles .entry) (numbers .entry) (certainties .entry) (shapeless .entry) (starts .entry) (ends .entry) (keys .entry) (confidences .entry) (counts .entry))) ⌝ }
 {
     answer_agrees(bytes, start + 1580, answer)
         & frames_agree(bytes, start + 1672, centres, values, energies, work)
@@ -124,5 +142,5 @@ pub fn outcome_agrees(
             certainties,
             shapeless,
         )
-        & segments_agree(bytes, start + 2284, starts, ends, keys, confidences)
+        & segments_agree(bytes, start + 2284, starts, ends, keys, confidences, counts)
 }

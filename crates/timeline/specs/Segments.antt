@@ -1,5 +1,5 @@
--- A stretch of time with one key, [start, end) in seconds, and such segments in lent rows: four slices side by side, with keys by number. Definitions only.
-use Prim.Native.Nat.{ℕ}
+-- A stretch of time with one key, [start, end) in seconds, and such segments in lent rows: five slices side by side, with keys by number. Definitions only.
+use Prim.Native.Nat.{ℕ, _+_}
 use mathlib.Core.Bool.{Bool}
 use mathlib.Core.List.{List, [], _∷_, map}
 use lib.ListN.{length, getD}
@@ -13,12 +13,12 @@ use Rattle.keys.specs.Numbers.{keyNumber, keyAt}
 use Rattle.timeline.specs.declared.segment.Segment.{Segment}
 
 -- a segment, from its parts
-abbrev pub segment : Float → Float → Key → Float → Segment
-segment start end key confidence = record { start = start; end = end; key = key; confidence = confidence }
+abbrev pub segment : Float → Float → Key → Float → ℕ → Segment
+segment start end key confidence windows = record { start = start; end = end; key = key; confidence = confidence; windows = windows }
 
 -- what a row holds that joining has emptied: zeros and key 0
 abbrev pub emptied : Segment
-emptied = segment plusZero plusZero (keyAt 0) plusZero
+emptied = segment plusZero plusZero (keyAt 0) plusZero 0
 
 -- a segment's length, as the Rust computes it
 unfoldable pub seconds : Segment → Float
@@ -28,10 +28,10 @@ seconds s = sub binary64 (s .end) (s .start)
 unfoldable pub short : Float → Segment → Bool
 short least s = lt (seconds s) least
 
--- two neighbours as one: it has the key and the confidence of the earlier one
+-- two neighbours as one: it has the key and the confidence of the earlier one, and rests on the windows of both
 unfoldable pub joined : Segment → Segment → Segment
 joined earlier later =
-    segment (minimumNumber (later .start) (earlier .start)) (maximumNumber (later .end) (earlier .end)) (earlier .key) (earlier .confidence)
+    segment (minimumNumber (later .start) (earlier .start)) (maximumNumber (later .end) (earlier .end)) (earlier .key) (earlier .confidence) (earlier .windows + later .windows)
 
 -- segment i
 abbrev pub segmentAt : List Segment → ℕ → Segment
@@ -43,10 +43,11 @@ pub record SegmentRows : Type 0 where
   pub ends : List Float
   pub keys : List ℕ
   pub confidences : List Float
+  pub counts : List ℕ
 
 -- as a contract has it: what the references refer to
-abbrev pub lentSegments : RefT (List Float) → RefT (List Float) → RefT (List ℕ) → RefT (List Float) → SegmentRows
-lentSegments starts ends keys confidences = record { starts = now starts; ends = now ends; keys = now keys; confidences = now confidences }
+abbrev pub lentSegments : RefT (List Float) → RefT (List Float) → RefT (List ℕ) → RefT (List Float) → RefT (List ℕ) → SegmentRows
+lentSegments starts ends keys confidences counts = record { starts = now starts; ends = now ends; keys = now keys; confidences = now confidences; counts = now counts }
 
 -- the rows once these segments stand in the first places
 abbrev pub holdingSegments : List Segment → SegmentRows → SegmentRows
@@ -56,11 +57,12 @@ holdingSegments segments before =
       ends = front (map (λ (s : Segment). s .end) segments) (before .ends);
       keys = front (map (λ (s : Segment). keyNumber (s .key)) segments) (before .keys);
       confidences = front (map (λ (s : Segment). s .confidence) segments) (before .confidences);
+      counts = front (map (λ (s : Segment). s .windows) segments) (before .counts);
     }
 
 -- the segment in row i
 unfoldable pub segmentIn : SegmentRows → ℕ → Segment
-segmentIn r i = segment (getD (r .starts) i nan) (getD (r .ends) i nan) (keyAt (getD (r .keys) i 0)) (getD (r .confidences) i nan)
+segmentIn r i = segment (getD (r .starts) i nan) (getD (r .ends) i nan) (keyAt (getD (r .keys) i 0)) (getD (r .confidences) i nan) (getD (r .counts) i 0)
 
 -- the segments in the first rows
 abbrev pub segmentsIn : SegmentRows → ℕ → List Segment
@@ -68,4 +70,4 @@ segmentsIn r count = list (segmentIn r) count
 
 -- how many rows there are
 abbrev pub segmentRoom : SegmentRows → ℕ
-segmentRoom r = shortest (length (r .starts)) (length (r .ends) ∷ length (r .keys) ∷ length (r .confidences) ∷ [])
+segmentRoom r = shortest (length (r .starts)) (length (r .ends) ∷ length (r .keys) ∷ length (r .confidences) ∷ length (r .counts) ∷ [])

@@ -32,8 +32,9 @@ pub extern "C" fn ulyptesh_analyse(
     ends: &mut [f64],
     keys: &mut [u8],
     confidences: &mut [f32],
+    counts: &mut [u32],
 ) -> AnalyseResult
-    ensures { λ r. ⌜ Promised (given settings head (samples .entry) (window .entry) (coefficients .entry) (weights .entry) (lengths .entry) (qcoefficients .entry) (qwindows .entry)) (lentAll (centres .entry) (values .entry) (energies .entry) (work .entry) (middles .entry) (numbers .entry) (certainties .entry) (shapeless .entry) (starts .entry) (ends .entry) (keys .entry) (confidences .entry)) (analyseOutcome r (lentAll (centres .exit) (values .exit) (energies .exit) (work .exit) (middles .exit) (numbers .exit) (certainties .exit) (shapeless .exit) (starts .exit) (ends .exit) (keys .exit) (confidences .exit))) ⌝ }
+    ensures { λ r. ⌜ Promised (given settings head (samples .entry) (window .entry) (coefficients .entry) (weights .entry) (lengths .entry) (qcoefficients .entry) (qwindows .entry)) (lentAll (centres .entry) (values .entry) (energies .entry) (work .entry) (middles .entry) (numbers .entry) (certainties .entry) (shapeless .entry) (starts .entry) (ends .entry) (keys .entry) (confidences .entry) (counts .entry)) (analyseOutcome r (lentAll (centres .exit) (values .exit) (energies .exit) (work .exit) (middles .exit) (numbers .exit) (certainties .exit) (shapeless .exit) (starts .exit) (ends .exit) (keys .exit) (confidences .exit) (counts .exit))) ⌝ }
 {
     analyse(
         settings,
@@ -57,5 +58,6 @@ pub extern "C" fn ulyptesh_analyse(
         ends,
         keys,
         confidences,
+        counts,
     )
 }

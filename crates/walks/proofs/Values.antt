@@ -1,5 +1,7 @@
--- A function on plain data by value, with no `requires`, as a caller's walk uses it.
---     Value            the parameters, the result, and what it is
+-- A function on plain data by value, with a `requires` that states a fact or with none, as a caller's walk uses it.
+--     Asks             what it asks of its parameters: naught, or that a fact holds.        Asked      that this holds
+--     clause           the `requires` that Rattle makes of it.        clause-had, clause-told      it is had where that holds, and tells it
+--     Value            the parameters, the result, what is asked, and what the result is
 --     lifts            a run that does it meets the contract
 --     gives            a run that meets the contract returns that, and what the caller has, P, is as it was
 use mathlib.Core.Path.{_≡_, refl, subst}
@@ -13,7 +15,7 @@ use prog.Wp.{Heap, WpFn, Closed}
 use prog.Model.{Model}
 use prog.Routine.{Name, Routine, Env}
 use ghost.Atoms.{Atoms, sem}
-use contract.Monad.{Fun, fact, fm→mono}
+use contract.Monad.{Fun, fact, factI, fm→mono}
 use contract.Running.{GhostRules, Running, givenOf, tables, tablesOf}
 use types.Kit.{Given, ‵, raw, some, given, later, _⊛_, _$_, _∵_, !, qed, move, keep, use0, use1, split, join, pick, learn, drop, suffices, frame, check, await, updating, now as at-once, done}
 use denote.RattleType.{RattleType, Denots, Valss, owns, flat}
@@ -23,7 +25,7 @@ use denote.Steps.{nothing, heard, peeks, owned}
 use denote.Triple.Spec.{Meets, tripleOf}
 use denote.Triple.Statement.{FmF}
 use denote.Triple.Table.{framed, cited}
-use denote.Triple.Walked.{says, Stays, hasOf, walkOf, ends-at, walked, walk-meets}
+use denote.Triple.Walked.{says, needs, Stays, hasOf, walkOf, ends-at, walked, walk-meets}
 use denote.Triple.Clauses.{Ended, Clauses, closing, lasts, Lasts}
 use Rattle.walks.proofs.Plain as Plains
 use Rattle.walks.proofs.Plain.{Plain}
@@ -35,9 +37,31 @@ slots = Plains.slots 0
 abbrev pub kinds : List Plain → List RattleType
 kinds = Plains.kinds 0 tt
 
+pub data Asks (D : Type 0) : Type 1 where
+  naught : Asks D
+  that : (D → Type 0) → Asks D
+
+abbrev pub Asked : {D : Type 0} → Asks D → D → Type 0
+Asked naught a = Unit {0}
+Asked (that φ) a = φ a
+
+module _ {M : Type 1} (𝓤 : URA M) where
+  abbrev pub clause : {D : Type 0} → Asks D → D → SProp 𝓤
+  clause naught a = emp 𝓤
+  clause (that φ) a = fact 𝓤 (φ a)
+
+  clause-had : {D : Type 0} (q : Asks D) (a : D) → Asked q a → ent 𝓤 (emp 𝓤) (clause q a)
+  clause-had naught a asked = id⊢ 𝓤 _
+  clause-had (that φ) a asked = factI 𝓤 (φ a) (emp 𝓤) asked
+
+  clause-told : {D : Type 0} (q : Asks D) (a : D) (P : SProp 𝓤) {Q : SProp 𝓤} → (Asked q a → ent 𝓤 P Q) → ent 𝓤 (sep 𝓤 P (clause q a)) Q
+  clause-told naught a P h = via 𝓤 P (fst∗ 𝓤 P (emp 𝓤)) (h tt)
+  clause-told (that φ) a P h = needs 𝓤 (φ a) P h
+
 pub record Value : Type 2 where
   pub params : List Plain
   pub result : Plain
+  pub asks : Asks (Denots (kinds params))
   pub is : Denots (kinds params) → result .type .Denot
 
 module _ (t : Value) where
@@ -52,13 +76,13 @@ module _ (t : Value) where
 
   module _ {M : Type 1} (𝓤 : URA M) (H : Heap 𝓤) (A : Atoms 𝓤) where
     abbrev pub clauses : Clauses 𝓤 ended
-    clauses κs a = record { ghost = Unit {0}; requires = λ _. emp 𝓤; ensures = λ _ r e. fact 𝓤 (r ≡ t .is a) }
+    clauses κs a = record { ghost = Unit {0}; requires = λ _. clause 𝓤 (t .asks) a; ensures = λ _ r e. fact 𝓤 (r ≡ t .is a) }
 
     -- what a caller's walk asks of the entry of a table that stands for the function
     abbrev pub Knows : Fun 𝓤 → Type 1
     Knows run = Meets 𝓤 H A (ended .signature) run (closing 𝓤 H A ended clauses)
 
-    module _ (W : Given 𝓤 H A) (run : Fun 𝓤) (fm : FmF 𝓤 run) (met : Meets 𝓤 H A (ended .signature) run (closing 𝓤 H A ended clauses)) (a : Denots (kinds (t .params))) (good : Are (kinds (t .params)) (Ises (kinds (t .params))) a (spelt a)) (P : SProp 𝓤) where
+    module _ (W : Given 𝓤 H A) (run : Fun 𝓤) (fm : FmF 𝓤 run) (met : Meets 𝓤 H A (ended .signature) run (closing 𝓤 H A ended clauses)) (a : Denots (kinds (t .params))) (good : Are (kinds (t .params)) (Ises (kinds (t .params))) a (spelt a)) (asked : Asked (t .asks) a) (P : SProp 𝓤) where
       abbrev y : tripleOf 𝓤 H A (ended .signature) (closing 𝓤 H A ended clauses) .Ghost
       y = ((tt, tt, tt, a, spelt a), tt)
 
@@ -66,7 +90,7 @@ module _ (t : Value) where
       Gives v = H .⇛ (guard 𝓤 (Is (t .result .type) (t .is a) (v ∷ [])) P)
 
       goes : ent 𝓤 P (sep 𝓤 (tripleOf 𝓤 H A (ended .signature) (closing 𝓤 H A ended clauses) .pre y) P)
-      goes = qed W (raw P ∷ []) ∵ use0 W (raw (emp 𝓤)) (id⊢ 𝓤 _) $ use0 W (‵ (owns (kinds (t .params)) a (spelt a))) (owns-make 𝓤 H A (kinds (t .params)) (Ises (kinds (t .params))) (Plains.make 𝓤 H A W 0 tt (t .params)) a (spelt a) good) $ use0 W (raw (emp 𝓤)) (id⊢ 𝓤 _) $
+      goes = qed W (raw P ∷ []) ∵ use0 W (raw (clause 𝓤 (t .asks) a)) (clause-had 𝓤 (t .asks) a asked) $ use0 W (‵ (owns (kinds (t .params)) a (spelt a))) (owns-make 𝓤 H A (kinds (t .params)) (Ises (kinds (t .params))) (Plains.make 𝓤 H A W 0 tt (t .params)) a (spelt a) good) $ use0 W (raw (emp 𝓤)) (id⊢ 𝓤 _) $
           join ! $ move ! (0 ∷ 1 ∷ []) $ join ! $ done !
 
       back : (v : Val) → ent 𝓤 (sep 𝓤 (tripleOf 𝓤 H A (ended .signature) (closing 𝓤 H A ended clauses) .post y v) P) (Gives v)
@@ -84,7 +108,7 @@ module _ (t : Value) where
     Returned a v = H .⇛ (guard 𝓤 (Is (t .result .type) (t .is a) (v ∷ [])) (emp 𝓤))
 
     abbrev pub Does : Fun 𝓤 → Type 1
-    Does run = (a : Denots (kinds (t .params))) → Are (kinds (t .params)) (Ises (kinds (t .params))) a (spelt a) → ent 𝓤 (emp 𝓤) (run (flat (kinds (t .params)) (spelt a)) (Returned a))
+    Does run = (a : Denots (kinds (t .params))) → Are (kinds (t .params)) (Ises (kinds (t .params))) a (spelt a) → Asked (t .asks) a → ent 𝓤 (emp 𝓤) (run (flat (kinds (t .params)) (spelt a)) (Returned a))
 
     module _ (W : Given 𝓤 H A) where
       -- how a walk ends
@@ -111,15 +135,15 @@ module _ (t : Value) where
 
         pub lifts : Does run → Meets 𝓤 H A (ended .signature) run (closing 𝓤 H A ended clauses)
         lifts does = walk-meets 𝓤 H A ended stayed W (Plains.go 𝓤 H A W 0 (t .params)) clauses run (λ vs. fm→mono 𝓤 (run vs) (fm vs))
-            (walked 𝓤 H A ended stayed clauses run (λ κs. Plains.spells 0 tt (t .params)) (λ κs. Plains.tell 0 tt (t .params)) (λ κs qs bounds a g are. via 𝓤 _ (fst∗ 𝓤 _ (emp 𝓤))
-            (via 𝓤 _ (monoL 𝓤 (sem 𝓤 H A (owns (kinds (t .params)) a (spelt a))) (does a are)) (fm (flat (kinds (t .params)) (spelt a)) (Returned a) (Post a) (sem 𝓤 H A (owns (kinds (t .params)) a (spelt a))) (closes a)))))
+            (walked 𝓤 H A ended stayed clauses run (λ κs. Plains.spells 0 tt (t .params)) (λ κs. Plains.tell 0 tt (t .params)) (λ κs qs bounds a g are. clause-told 𝓤 (t .asks) a _ (λ asked.
+            via 𝓤 _ (monoL 𝓤 (sem 𝓤 H A (owns (kinds (t .params)) a (spelt a))) (does a are asked)) (fm (flat (kinds (t .params)) (spelt a)) (Returned a) (Post a) (sem 𝓤 H A (owns (kinds (t .params)) a (spelt a))) (closes a)))))
 
   -- a walk of the MIR that does it proves the function
   module _ {M : Type 1} (𝓤 : URA M) (H : Heap 𝓤) (𝓜 : Model 𝓤 H) (𝓖 : GhostRules 𝓤 H) (𝓡 : Running 𝓤 H 𝓜) (γ : Env) (k : Name) (e : Fn) where
     pub proves : Closed 𝓤 H (tables 𝓤 H 𝓜 𝓡 γ .C) (tables 𝓤 H 𝓜 𝓡 γ .Λ) k e → Does 𝓤 H (𝓖 .A) (WpFn 𝓤 H (tablesOf 𝓤 H 𝓜 (tables 𝓤 H 𝓜 𝓡 γ) .C) (tablesOf 𝓤 H 𝓜 (tables 𝓤 H 𝓜 𝓡 γ) .Λ) e)
         → Meets 𝓤 H (𝓖 .A) (ended .signature) (tables 𝓤 H 𝓜 𝓡 γ .C k) (closing 𝓤 H (𝓖 .A) ended (clauses 𝓤 H (𝓖 .A)))
     unfolding tablesOf
-    proves closed walk = lifts 𝓤 H (𝓖 .A) (givenOf 𝓤 H 𝓜 𝓖) (tables 𝓤 H 𝓜 𝓡 γ .C k) (framed 𝓤 H 𝓜 (tables 𝓤 H 𝓜 𝓡 γ) k) (λ a good. via 𝓤 _ (walk a good) (closed _ _))
+    proves closed walk = lifts 𝓤 H (𝓖 .A) (givenOf 𝓤 H 𝓜 𝓖) (tables 𝓤 H 𝓜 𝓡 γ .C k) (framed 𝓤 H 𝓜 (tables 𝓤 H 𝓜 𝓡 γ) k) (λ a good asked. via 𝓤 _ (walk a good asked) (closed _ _))
 
   -- the function's theorem gives it
   pub knows : {M : Type 1} (𝓤 : URA M) (H : Heap 𝓤) (𝓜 : Model 𝓤 H) (𝓖 : GhostRules 𝓤 H) (𝓡 : Running 𝓤 H 𝓜) (γ : Env) (f : Name) (r : Routine) → γ f ≡ r → Meets 𝓤 H (𝓖 .A) (ended .signature) (𝓡 .run r) (closing 𝓤 H (𝓖 .A) ended (clauses 𝓤 H (𝓖 .A)))

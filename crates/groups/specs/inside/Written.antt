@@ -1,6 +1,7 @@
 -- Only for the code's own steps: no promise names it. A group's segment from the slices of all estimates.
 use Prim.Native.Nat.{ℕ}
 use mathlib.Core.List.{List}
+use lib.ListN.{length}
 use lib.Ieee.{Float}
 use Rattle.keys.specs.Numbers.{keyAt}
 use Rattle.timeline.specs.Segments.{segment}
@@ -11,7 +12,7 @@ use Rattle.groups.specs.declared.cut.Group.{Group}
 
 -- the segment of a group, from its key numbers and confidences
 unfoldable pub grouped : Float → Float → List ℕ → List Float → Segment
-grouped start end numbers confidences = segment start end (keyAt (majorityOf numbers)) (meanConfidence confidences)
+grouped start end numbers confidences = segment start end (keyAt (majorityOf numbers)) (meanConfidence confidences) (length confidences)
 
 -- a group, from its parts
 abbrev pub group : ℕ → ℕ → Float → Float → Group

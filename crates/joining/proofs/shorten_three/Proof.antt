@@ -20,6 +20,7 @@ use Rattle.records.specs.Records.{left, shortenedIn}
 use Rattle.records.proofs.Tasks.{typed, R, val, element, Record-at, Shorten-records}
 use Rattle.joining.specs.Threes.{three, parts}
 use Rattle.joining.proofs.Three as T
+use Rattle.joining.proofs.Fits.{first-fit}
 use Rattle.joining.proofs.Tasks.{threeVal, three-typed, Fewer, Three-of, Shorten-three}
 use Rattle.numbers.proofs.counts.fewer.Symbol as fewer-def
 use Rattle.numbers.proofs.counts.fewer.Symbol.{name as #fewer}
@@ -41,7 +42,7 @@ use denote.Slice.{Room}
 
 walk : {M : Type 1} (𝓤 : URA M) (H : Heap 𝓤) (A : Atoms 𝓤) (W : Given 𝓤 H A) (𝓣 : Tables 𝓤 H) → Values.Knows Fewer 𝓤 H A (𝓣 .C #fewer) → Rows.Knows Shorten-records 𝓤 H A (𝓣 .C #shorten-records) → Looks.Knows Record-at 𝓤 H A (𝓣 .C #record-at) → Values.Knows Three-of 𝓤 H A (𝓣 .C #three-of)
     → Values.Does Shorten-three 𝓤 H A (WpFn 𝓤 H (𝓣 .C) (𝓣 .Λ) code.function)
-walk 𝓤 H A W 𝓣 fewers shortens reads makes a good =
+walk 𝓤 H A W 𝓣 fewers shortens reads makes a good asked =
     let least = a .0 in
     let count = a .1 .0 in
     let first = a .1 .1 .0 in
@@ -62,13 +63,13 @@ walk 𝓤 H A W 𝓣 fewers shortens reads makes a good =
     pass1 ! (init ! 5 refl (typed W first g₁)) $ pass1 ! (init ! 6 refl (typed W second g₂)) $ pass1 ! (init ! 7 refl (typed W third g₃)) $ pass0 ! $
     -- `let mut records = [first, second, third];`
     sets ! (agg ! (vars3 ! refl refl refl)) refl (array-typed R (LL.lawful S.the-type S′.the-laws 𝓤 H A W .typed) 3 xs _ whole .0) $
-    calls-value ! fm Fewer fewers (count, (3, tt)) (good .1 .0, ((refl, three-fits), tt)) (vint w64 held) refl (and-then ! (var ! refl) (and-then ! (lit ! tt) (no-more !))) (λ g. lands-in ! refl (tt, record { fits = g .1 }) $
+    calls-value ! fm Fewer fewers (count, (3, tt)) (good .1 .0, ((refl, three-fits), tt)) tt (vint w64 held) refl (and-then ! (var ! refl) (and-then ! (lit ! tt) (no-more !))) (λ g. lands-in ! refl (tt, record { fits = g .1 }) $
     -- the array stands at the head as a row, and nothing in its place
     let b : ℕ = l .1 .1 .1 .1 .1 .1 .0 in
     move ! (8 ∷ 1 ∷ 2 ∷ 3 ∷ 4 ∷ 5 ∷ 6 ∷ 7 ∷ 0 ∷ []) $ use1 W (‵ (row R fullShare xs b 0)) (array-row 𝓤 H A W R 3 b tt (LL.makes S.the-type S′.the-plain 𝓤 H A) xs us whole) $
     -- `shorten_records(&mut records, least, held)`
     sets ! (addr ! (from ! (stop !))) refl (tt, tt) $ sets ! (agg ! (and-then ! (var ! refl) (and-then ! (lit ! tt) (no-more !)))) refl (tt, (tt, (record { fits = three-fits }, tt))) $
-    calls-task ! fm Shorten-records shortens (vint w64) (λ _. refl) b 0 3 xs refl room (λ _. (least, (held, tt))) (λ _. (good .0, (g, tt))) (λ _. min-le-right count 3) (λ n zs. left n zs ≡ shortenedIn least held xs) (λ _ _ _ e. e) (vfloat binary64 least ∷ vint w64 held ∷ []) (λ _. refl) (vars3 ! refl refl refl) (λ n zs is len shortened.
+    calls-task ! fm Shorten-records shortens (vint w64) (λ _. refl) b 0 3 xs refl room (λ _. (least, (held, tt))) (λ _. (good .0, (g, tt))) (λ _. (min-le-right count 3, first-fit held first second third asked)) (λ n zs. left n zs ≡ shortenedIn least held xs) (λ _ _ _ e. e) (vfloat binary64 least ∷ vint w64 held ∷ []) (λ _. refl) (vars3 ! refl refl refl) (λ n zs is len shortened.
     lands-in ! refl (tt, record { fits = is .1 }) $
     -- the three records
     sets ! (addr ! (from ! (stop !))) refl (tt, tt) $ sets ! (agg ! (and-then ! (var ! refl) (and-then ! (lit ! tt) (no-more !)))) refl (tt, (tt, (record { fits = three-fits }, tt))) $
@@ -79,7 +80,7 @@ walk 𝓤 H A W 𝓣 fewers shortens reads makes a good =
     calls-read ! fm element reads fullShare b 0 3 zs len room 2 (lit< tt) (omega (arith, len)) (and-then ! (var ! refl) (and-then ! (lit ! tt) (no-more !))) (λ h₃. lands-in ! refl (typed W (segmentAt zs 2) h₃) $
     -- `three_of(left, one, two, last)`
     let result = three n (segmentAt zs 0) (segmentAt zs 1) (segmentAt zs 2) in
-    calls-value ! fm Three-of makes (n, (segmentAt zs 0, (segmentAt zs 1, (segmentAt zs 2, tt)))) (is, (h₁, (h₂, (h₃, tt)))) (threeVal result) refl (and-then ! (var ! refl) (vars3 ! refl refl refl)) (λ h. lands-in ! refl (three-typed W result h) $
+    calls-value ! fm Three-of makes (n, (segmentAt zs 0, (segmentAt zs 1, (segmentAt zs 2, tt)))) (is, (h₁, (h₂, (h₃, tt)))) tt (threeVal result) refl (and-then ! (var ! refl) (vars3 ! refl refl refl)) (λ h. lands-in ! refl (three-typed W result h) $
     move ! (8 ∷ 1 ∷ 2 ∷ 3 ∷ 4 ∷ 5 ∷ 6 ∷ 7 ∷ 0 ∷ []) $
     leaves ! (look ! 2 refl) (full, (full, (full, (full, (full, (full, (record { goes = row-room 𝓤 H A W R 3 b zs len }, (full, (full, (full, (full, (full, (full, (full, (full, (full, (full, (full, (full, (full, tt))))))))))))))))))))
     (Values.leaves Shorten-three 𝓤 H A W a (threeVal result) (subst (λ x. Is T.the-row x (threeVal result ∷ [])) (ap parts shortened) h)))))))))

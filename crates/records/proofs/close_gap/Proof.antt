@@ -71,7 +71,7 @@ walk 𝓤 H A W 𝓣 copies empties writes κs b o ys a room good asked =
     known ! R fullShare b o (Facts 𝓤 H A l b o ys p count (n - 1)) (copiedDown j zs) (omega (arith, inv .0), subst (λ (k : ℕ). Closing p count ys k (copiedDown j zs)) next (closing-more closing (asked .1) less)) $ again (n - 1) (omega (arith, less))))
     -- `put_record(records, last, emptied_segment())`
     (λ no.
-    leave _ $ calls-value ! fm Emptied-segment empties tt tt (val emptied) refl (no-more !) (λ g. lands-in ! refl (typed W emptied g) $
+    leave _ $ calls-value ! fm Emptied-segment empties tt tt tt (val emptied) refl (no-more !) (λ g. lands-in ! refl (typed W emptied g) $
     relends ! (room .0) refl refl refl refl refl refl refl refl $
     calls-write ! fm element writes b o (length ys) zs len room last last-fits (omega (arith, len, asked .0, asked .1)) emptied g (vars3 ! refl refl refl) $ lands-in ! refl (tt, tt) $
     sets ! (of-opd ! (unit-lit !)) refl (tt, tt) $

@@ -68,7 +68,7 @@ walk 𝓤 H A W 𝓣 reads tells κs q b o ys a room good asked =
     let next-fits : i + 1 < 2 ^ 64 = omega (arith, less, count-fits) in
     -- `record_at(records, i)` and `is_short(least, record)`
     calls-read ! fm element reads q b o (length ys) ys refl room i i-fits (omega (arith, less, asked)) (vars2 ! refl refl) (λ g. lands-in ! refl (typed W (segmentAt ys i) g) $
-    calls-value ! fm Is-short tells (least, (segmentAt ys i, tt)) (good .0, (g, tt)) (vbool (short least (segmentAt ys i))) refl (vars2 ! refl refl) (λ _. lands-in ! refl (tt, tt) $
+    calls-value ! fm Is-short tells (least, (segmentAt ys i, tt)) (good .0, (g, tt)) tt (vbool (short least (segmentAt ys i))) refl (vars2 ! refl refl) (λ _. lands-in ! refl (tt, tt) $
     ifs ! (var ! refl)
     -- `break i`
     (λ is Q′ out′ goes. sets ! (of-opd ! (var ! refl)) refl (tt, record { fits = i-fits }) $ breaks ! (goes 1) $ leave _ $

@@ -21,10 +21,11 @@ use Rattle.records.proofs.join_at.Code as code
 
 walk : {M : Type 1} (𝓤 : URA M) (H : Heap 𝓤) (A : Atoms 𝓤) (W : Given 𝓤 H A) (𝓣 : Tables 𝓤 H) → Looks.Knows Record-at 𝓤 H A (𝓣 .C #record-at) → Values.Knows Join-segments 𝓤 H A (𝓣 .C #join-segments) → Rows.Knows (task Put-record) 𝓤 H A (𝓣 .C #put-record)
     → Rows.Does (task Join-at) 𝓤 H A (WpFn 𝓤 H (𝓣 .C) (𝓣 .Λ) code.function)
-walk 𝓤 H A W 𝓣 reads joins writes κs b o ys a room good within =
+walk 𝓤 H A W 𝓣 reads joins writes κs b o ys a room good asked =
     let i = a .0 in
     let earlier = segmentAt ys i in
     let later = segmentAt ys (i + 1) in
+    let within = asked .0 in
     let next-fits : i + 1 < 2 ^ 64 = omega (arith, room .0, within) in
     let inside : i < length ys = omega (arith, within) in
     let fm = fmOf 𝓤 H (W .laws) 𝓣 in
@@ -38,7 +39,7 @@ walk 𝓤 H A W 𝓣 reads joins writes κs b o ys a room good within =
     sets ! (bin ! (var ! refl) (lit ! tt) (record { fits = next-fits })) refl (tt, record { fits = next-fits }) $
     calls-read ! fm element reads fullShare b o (length ys) ys refl room (i + 1) next-fits within (vars2 ! refl refl) (λ g₂. lands-in ! refl (typed W later g₂) $
     -- `join_segments(earlier, later)`
-    calls-value ! fm Join-segments joins (earlier, (later, tt)) (g₁, (g₂, tt)) (val (joined earlier later)) refl (vars2 ! refl refl) (λ g. lands-in ! refl (typed W (joined earlier later) g) $
+    calls-value ! fm Join-segments joins (earlier, (later, tt)) (g₁, (g₂, tt)) (asked .1) (val (joined earlier later)) refl (vars2 ! refl refl) (λ g. lands-in ! refl (typed W (joined earlier later) g) $
     -- `put_record(records, p, both)`
     relends ! (room .0) refl refl refl refl refl refl refl refl $
     calls-write ! fm element writes b o (length ys) ys refl room i (good .0 .1) inside (joined earlier later) g (vars3 ! refl refl refl) $ lands-in ! refl (tt, tt) $

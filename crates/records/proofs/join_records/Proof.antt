@@ -25,7 +25,7 @@ walk 𝓤 H A W 𝓣 joins closes κs b o ys a room good asked =
     pass1 ! (init ! 3 refl (tt, (tt, (record { fits = room .0 }, tt)))) $ pass1 ! (init ! 4 refl (tt, record { fits = good .0 .1 })) $ pass1 ! (init ! 5 refl (tt, record { fits = good .1 .0 .1 })) $ pass0 ! $
     -- `join_at(records, p)`
     relends ! (room .0) refl refl refl refl refl refl refl refl $
-    calls-change ! fm Join-at joins b o n ys refl room (λ _. (p, tt)) (λ _. (good .0, tt)) (λ _. omega (arith, asked .0, asked .1)) (joinedAt p ys) (λ _. refl) (vint w64 p ∷ []) (λ _. refl) (vars2 ! refl refl) (λ len. lands-in ! refl (tt, tt) $
+    calls-change ! fm Join-at joins b o n ys refl room (λ _. (p, tt)) (λ _. (good .0, tt)) (λ _. (omega (arith, asked .0, asked .1), asked .2)) (joinedAt p ys) (λ _. refl) (vint w64 p ∷ []) (λ _. refl) (vars2 ! refl refl) (λ len. lands-in ! refl (tt, tt) $
     -- `close_gap(records, p + 1, count)`
     relends ! (room .0) refl refl refl refl refl refl refl refl $
     sets ! (bin ! (var ! refl) (lit ! tt) (record { fits = next-fits })) refl (tt, record { fits = next-fits }) $

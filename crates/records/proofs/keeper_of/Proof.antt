@@ -39,11 +39,11 @@ walk 𝓤 H A W 𝓣 reads befores afters keeps κs q b o ys a room good asked =
     let fm = fmOf 𝓤 H (W .laws) 𝓣 in
     qed W (‵ (row R q ys b o) ∷ []) ∵ locals ! (𝓣 .C) (𝓣 .Λ) code.function (sliceVal (b, o) (length ys) ∷ vint w64 i ∷ vint w64 count ∷ []) _ (λ l. params1 ! $
     pass1 ! (init ! 3 refl (tt, (tt, (record { fits = room .0 }, tt)))) $ pass1 ! (init ! 4 refl (tt, record { fits = good .0 .1 })) $ pass1 ! (init ! 5 refl (tt, record { fits = good .1 .0 .1 })) $ pass0 ! $
-    calls-value ! fm Place-before befores (i, tt) (good .0, tt) (vint w64 before) refl (and-then ! (var ! refl) (no-more !)) (λ g₁. lands-in ! refl (tt, record { fits = g₁ .1 }) $
-    calls-value ! fm Place-after afters (i, (count, tt)) (good .0, (good .1 .0, tt)) (vint w64 after) refl (vars2 ! refl refl) (λ g₂. lands-in ! refl (tt, record { fits = g₂ .1 }) $
+    calls-value ! fm Place-before befores (i, tt) (good .0, tt) tt (vint w64 before) refl (and-then ! (var ! refl) (no-more !)) (λ g₁. lands-in ! refl (tt, record { fits = g₁ .1 }) $
+    calls-value ! fm Place-after afters (i, (count, tt)) (good .0, (good .1 .0, tt)) tt (vint w64 after) refl (vars2 ! refl refl) (λ g₂. lands-in ! refl (tt, record { fits = g₂ .1 }) $
     calls-read ! fm element reads q b o (length ys) ys refl room before (g₁ .1) (omega (arith, asked .0, asked .1)) (vars2 ! refl refl) (λ g₃. lands-in ! refl (typed W earlier g₃) $
     calls-read ! fm element reads q b o (length ys) ys refl room after (g₂ .1) (omega (arith, inside, asked .1)) (vars2 ! refl refl) (λ g₄. lands-in ! refl (typed W later g₄) $
-    calls-value ! fm Kept-place keeps (i, (before, (after, (earlier, (later, tt))))) (good .0, (g₁, (g₂, (g₃, (g₄, tt))))) (vint w64 kept) refl (and-then ! (var ! refl) (and-then ! (var ! refl) (and-then ! (var ! refl) (vars2 ! refl refl)))) (λ g. lands-in ! refl (tt, record { fits = g .1 }) $
+    calls-value ! fm Kept-place keeps (i, (before, (after, (earlier, (later, tt))))) (good .0, (g₁, (g₂, (g₃, (g₄, tt))))) tt (vint w64 kept) refl (and-then ! (var ! refl) (and-then ! (var ! refl) (and-then ! (var ! refl) (vars2 ! refl refl)))) (λ g. lands-in ! refl (tt, record { fits = g .1 }) $
     leaves ! (look ! 2 refl) (full, (full, (full, (full, (full, (full, (full, (full, tt)))))))) (Looks.leaves Keeper-of 𝓤 H A W κs q b o ys a (vint w64 kept) kept (g, keeper-is i count ys (asked .0) (asked .1)))))))))
 
 pub keeper-of-spec : {M : Type 1} → stated.statement M

@@ -13,13 +13,13 @@ walk : {M : Type 1} (𝓤 : URA M) (H : Heap 𝓤) (A : Atoms 𝓤) → Given �
 walk 𝓤 H A W 𝓣 κs b o ys a room good within =
     let i = a .0 in
     let s = a .1 .0 in
-    let offset-fits : i * 24 < 2 ^ 64 = omega (arith, room .1, within) in
+    let offset-fits : i * 32 < 2 ^ 64 = omega (arith, room .1, within) in
     let typed = LL.lawful T.the-type T′.the-laws 𝓤 H A W .typed s _ (good .1 .0) .0 in
     qed W (‵ (row R fullShare ys b o) ∷ []) ∵ locals ! (𝓣 .C) (𝓣 .Λ) code.function (sliceVal (b, o) (length ys) ∷ vint w64 i ∷ val s ∷ []) _ (λ l. params1 ! $
     pass1 ! (init ! 3 refl (tt, (tt, (record { fits = room .0 }, tt)))) $ pass1 ! (init ! 4 refl (tt, record { fits = good .0 .1 })) $ pass1 ! (init ! 5 refl typed) $ pass0 ! $
     assigns ! (bin ! (load ! (from ! (stop !)) (look ! 4 refl)) (lit ! tt) (record { fits = offset-fits })) (from ! (stop !)) (init ! 6 refl (tt, record { fits = offset-fits })) $
     assigns ! (bin ! (load ! (from ! (fld ! refl (stop !))) (look-in ! 3 (sub ! 0 refl (whole !)))) (load ! (from ! (stop !)) (look ! 6 refl)) tt) (from ! (stop !)) (init ! 7 refl (tt, tt)) $
-    rewrite ! 7 (λ (p : ℕ). ‵ (fat fullShare tyPtr (l .1 .1 .1 .1 .1 .0) 0 (vptr b p))) (sym (place-is 24 o i)) refl $
+    rewrite ! 7 (λ (p : ℕ). ‵ (fat fullShare tyPtr (l .1 .1 .1 .1 .1 .0) 0 (vptr b p))) (sym (place-is 32 o i)) refl $
     elem-out ! R (Is R) (shows 𝓤 H A R) vals (LL.tells T.the-type T′.the-laws) fullShare ys i s b o within (λ _.
     -- [records[i]; what it owns; the others; …; the locals from position 4]
     assigns ! (of-opd ! (load ! (from ! (stop !)) (look ! 7 refl))) (from ! (hop ! (look ! 9 refl) (stop !))) (store-raw ! 0 refl typed) $

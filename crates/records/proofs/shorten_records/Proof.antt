@@ -11,7 +11,7 @@ use Rattle.timeline.specs.declared.segment.Segment.{Segment}
 use Rattle.shortening.specs.Shorten.{firstShort, keeper}
 use lib.ListN.{take}
 use Rattle.records.specs.inside.Steps.{joinedRecords}
-use Rattle.records.proofs.Shortened.{Shortening, shortening-start, now-room, short-within, keeper-there, shortening-more, shortening-few, shortening-done}
+use Rattle.records.proofs.Shortened.{Shortening, shortening-start, now-room, short-within, keeper-there, both-fit, shortening-more, shortening-few, shortening-done}
 use Rattle.records.proofs.first_short.Symbol as first-short-def
 use Rattle.records.proofs.first_short.Symbol.{name as #first-short}
 use Rattle.records.proofs.first_short.Met as first-short-thm
@@ -51,7 +51,7 @@ walk 𝓤 H A W 𝓣 finds keeps joins κs b o ys a room good asked =
     whiles ! 𝓣 (I 𝓤 H A l b o ys least count) (λ n Q again leave out. knowing ! R fullShare b o (Shortening least count ys n) (λ zs s.
     let len : length zs ≡ length ys = s .long in
     let n-fits : n < 2 ^ 64 = omega (arith, s .few, count-fits) in
-    let there = now-room s asked in
+    let there = now-room s (asked .0) in
     sets ! (bin ! (lit ! tt) (var ! refl) tt) refl (tt, tt) $ tests ! (var ! refl)
     (λ many.
     let several : 1 < n = ltb→lt 1 n many in
@@ -63,23 +63,24 @@ walk 𝓤 H A W 𝓣 finds keeps joins κs b o ys a room good asked =
     -- `return n`
     (λ same Q′ out′ goes. sets ! (of-opd ! (var ! refl)) refl (tt, record { fits = n-fits }) $
     leaves-within ! (Rows.Left Shorten-records 𝓤 H A κs b o ys a) (out′ ∙ out) (look ! 2 refl) (full, (full, (full, (full, (full, (full, (empty, (full, (full, (full, (empty, (empty, (empty, (empty, (empty, tt)))))))))))))))
-    (Rows.leaves Shorten-records 𝓤 H A W κs b o ys a (vint w64 n) n zs ((refl, n-fits), len, shortening-done s asked found (eqb→eq i n same))))
+    (Rows.leaves Shorten-records 𝓤 H A W κs b o ys a (vint w64 n) n zs ((refl, n-fits), len, shortening-done s (asked .0) found (eqb→eq i n same))))
     (λ other.
     let inside : i ≡ n → ⊥ = λ e. T-not (eqb i n) other (eq→eqb e) in
-    let i-there = short-within s asked found inside in
+    let i-there = short-within s (asked .0) found inside in
     -- `keeper_of(records, i, n)`
     relends ! (room .0) refl refl refl refl refl refl refl refl $
     calls-told ! fm Keeper-of keeps (vint w64) (λ _. refl) fullShare b o (length ys) zs len room (λ _. (i, (n, tt))) (λ _. (is, ((refl, n-fits), tt))) (λ _. (i-there, there)) (λ p. p ≡ keeper (take n zs) i) (λ _ _ e. e) (vint w64 i ∷ vint w64 n ∷ []) (λ _. refl) (vars3 ! refl refl refl) (λ p is′ kept.
+    let p-there = keeper-there s (asked .0) several i-there kept in
     lands-in ! refl (tt, record { fits = is′ .1 }) $
     -- `join_records(records, p, n); n -= 1;`
     relends ! (room .0) refl refl refl refl refl refl refl refl $
-    calls-change ! fm Join-records joins b o (length ys) zs len room (λ _. (p, (n, tt))) (λ _. (is′, ((refl, n-fits), tt))) (λ _. (keeper-there s asked several i-there kept, there)) (joinedRecords p n zs) (λ _. refl) (vint w64 p ∷ vint w64 n ∷ []) (λ _. refl) (vars3 ! refl refl refl) (λ long.
+    calls-change ! fm Join-records joins b o (length ys) zs len room (λ _. (p, (n, tt))) (λ _. (is′, ((refl, n-fits), tt))) (λ _. (p-there, there, both-fit s (asked .0) p p-there (asked .1))) (joinedRecords p n zs) (λ _. refl) (vint w64 p ∷ vint w64 n ∷ []) (λ _. refl) (vars3 ! refl refl refl) (λ long.
     lands-in ! refl (tt, tt) $ resets-last ! (bin ! (var ! refl) (lit ! tt) (omega (arith, several))) refl (tt, record { fits = omega (arith, n-fits) }) $
     forget ! 7 refl $ forget ! 8 refl $ forget ! 9 refl $ forget ! 10 refl $ forget ! 11 refl $ forget ! 12 refl $ forget ! 13 refl $ forget ! 14 refl $ forget ! 15 refl $ forget ! 16 refl $
-    known ! R fullShare b o (Shortening least count ys (n - 1)) (joinedRecords p n zs) (shortening-more s asked several found inside kept (omega (arith, long, len))) $ again (n - 1) (omega (arith, several)))))))
+    known ! R fullShare b o (Shortening least count ys (n - 1)) (joinedRecords p n zs) (shortening-more s (asked .0) several found inside kept (omega (arith, long, len))) $ again (n - 1) (omega (arith, several)))))))
     (λ few. leave _ $ sets ! (of-opd ! (var ! refl)) refl (tt, record { fits = n-fits }) $
     leaves ! (look ! 2 refl) (full, (full, (full, (full, (full, (empty, (empty, (full, (empty, (empty, (empty, (empty, (empty, (empty, (empty, tt)))))))))))))))
-    (Rows.leaves Shorten-records 𝓤 H A W κs b o ys a (vint w64 n) n zs ((refl, n-fits), len, shortening-few s asked (nltb→le 1 n few)))))) count)
+    (Rows.leaves Shorten-records 𝓤 H A W κs b o ys a (vint w64 n) n zs ((refl, n-fits), len, shortening-few s (asked .0) (nltb→le 1 n few)))))) count)
 
 pub shorten-records-spec : {M : Type 1} → stated.statement M
 unfolding code.routine

@@ -16,6 +16,10 @@ movedDown p count x xs = take p xs ++ (drop (p + 1) (take count xs) ++ (x ∷ dr
 abbrev pub copiedDown : ℕ → List Segment → List Segment
 copiedDown i records = set records i (segmentAt records (i + 1))
 
+-- how many windows record p and the one behind it rest on
+abbrev pub windowsOfTwo : ℕ → List Segment → ℕ
+windowsOfTwo p records = segmentAt records p .windows + segmentAt records (p + 1) .windows
+
 -- record p is joined with the one behind it, which stays
 abbrev pub joinedAt : ℕ → List Segment → List Segment
 joinedAt p records = set records p (joined (segmentAt records p) (segmentAt records (p + 1)))

@@ -1,22 +1,16 @@
 -- Rows with a gap: the first `done` hold the segments looked at, and those from `next` up to the count are unread. No promise names it. Definitions only.
-use Prim.Native.Nat.{ℕ, _+_, _-_}
-use mathlib.Core.Bool.{Bool, true, false, _&&_, cond}
+use Prim.Native.Nat.{ℕ, _+_, _-_, _^_, _<_}
+use mathlib.Core.Bool.{cond}
 use mathlib.Core.List.{List, _++_}
 use lib.ListN.{take, drop, replicate}
-use lib.Dec.{eqb}
-use lib.Ieee.{Float, le}
+use lib.Ieee.{Float}
 use Rattle.keys.specs.Numbers.{keyNumber}
-use Rattle.timeline.specs.Segments.{emptied, seconds, short, joined, SegmentRows, segmentIn}
+use Rattle.timeline.specs.Segments.{emptied, short, joined, SegmentRows, segmentIn}
 use Rattle.timeline.specs.inside.Segments.{segmentRows, putSegment, FilledRows, filledRows}
 
--- the last of those looked at joins the one before it rather than the next one
-unfoldable pub prefersBack : ℕ → ℕ → ℕ → SegmentRows → Bool
-prefersBack done next count rows =
-    cond (eqb (done - 1) 0) false (cond (eqb next count) true (le (seconds (segmentIn rows next)) (seconds (segmentIn rows (done - 1 - 1)))))
-
--- it is short, and does
-unfoldable pub joinsBack : Float → ℕ → ℕ → ℕ → SegmentRows → Bool
-joinsBack least done next count rows = short least (segmentIn rows (done - 1)) && prefersBack done next count rows
+-- the segments in two rows can join: the windows of both are a count of 32 bits
+abbrev pub Joinable : ℕ → ℕ → SegmentRows → Type 0
+Joinable i j r = segmentIn r i .windows + segmentIn r j .windows < 2 ^ 32
 
 -- the segments in the rows p and p + 1 as one, in row p
 abbrev pub joinedRows : ℕ → SegmentRows → SegmentRows
@@ -41,3 +35,4 @@ emptiedRows from count r =
     (emptiedColumn from count (emptied .end) (r .ends))
     (emptiedColumn from count (keyNumber (emptied .key)) (r .keys))
     (emptiedColumn from count (emptied .confidence) (r .confidences))
+    (emptiedColumn from count (emptied .windows) (r .counts))

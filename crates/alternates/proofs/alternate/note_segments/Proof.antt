@@ -10,8 +10,7 @@ use lib.Ieee.{Float, binary64, ofBits, add}
 use Rattle.laws.specs.Front.{list}
 use Rattle.laws.proofs.Front.{list-more}
 use Rattle.keys.specs.Numbers.{keyNumber}
-use Rattle.timeline.specs.Segments.{SegmentRows, lentSegments, segmentIn, segmentsIn}
-use Rattle.timeline.specs.inside.Segments.{segmentRows}
+use Rattle.timeline.specs.inside.Segments.{Stretches, stretches, lentStretches, stretchIn, stretchesIn}
 use Rattle.timeline.specs.declared.segment.Segment.{Segment}
 use Rattle.alternates.specs.Alternate.{lasting}
 use Rattle.alternates.specs.inside.Noted.{notedOf}
@@ -20,15 +19,15 @@ use Rattle.alternates.proofs.alternate.note_segments.Statement.{stateme
 use Rattle.alternates.proofs.alternate.note_segments.Tie as tie
 
 abbrev Inv-loop : tie.InvT-loop
-Inv-loop reported count starts ends keys confidences sums₀ order₀ known₀ met₀ i₀ sums order known met i =
-    (i ≤ count) × Noting reported (segmentsIn (segmentRows starts ends keys confidences) i) sums order known met
+Inv-loop reported count starts ends keys sums₀ order₀ known₀ met₀ i₀ sums order known met i =
+    (i ≤ count) × Noting reported (stretchesIn (stretches starts ends keys) i) sums order known met
 
 abbrev μ-loop : tie.MeasureT-loop
-μ-loop reported count starts ends keys confidences sums₀ order₀ known₀ met₀ i₀ sums order known met i = count - i
+μ-loop reported count starts ends keys sums₀ order₀ known₀ met₀ i₀ sums order known met i = count - i
 
--- the rows that the call is lent
-abbrev rows : tie.Start Inv-loop μ-loop → SegmentRows
-rows s = lentSegments (s .args .starts) (s .args .ends) (s .args .keys) (s .args .confidences)
+-- the columns that the call is lent
+abbrev rows : tie.Start Inv-loop μ-loop → Stretches
+rows s = lentStretches (s .args .starts) (s .args .ends) (s .args .keys)
 
 -- segment i, and whether it lasts
 module _ (c : tie.After-is-lasting Inv-loop μ-loop) where
@@ -36,22 +35,22 @@ module _ (c : tie.After-is-lasting Inv-loop μ-loop) where
   turn = c .before .before .before
 
   abbrev start : tie.Start Inv-loop μ-loop
-  start = turn .before .before .before .before .before
+  start = turn .before .before .before .before
 
   abbrev inside : turn .loop .i < start .args .count
   inside = c .before .before .loop-test .taken
 
   abbrev here : Segment
-  here = c .before .segment-at .result
+  here = c .before .stretch-at .result
 
   -- the segments so far
   abbrev before : List Segment
-  before = segmentsIn (rows start) (turn .loop .i)
+  before = stretchesIn (rows start) (turn .loop .i)
 
-  next : before ++ (here ∷ []) ≡ segmentsIn (rows start) (turn .loop .i + 1)
-  next = ap (λ (s : Segment). before ++ (s ∷ [])) (c .before .segment-at .ensures) ∙ sym (list-more (segmentIn (rows start)) (turn .loop .i))
+  next : before ++ (here ∷ []) ≡ stretchesIn (rows start) (turn .loop .i + 1)
+  next = ap (λ (s : Segment). before ++ (s ∷ [])) (c .before .stretch-at .ensures) ∙ sym (list-more (stretchIn (rows start)) (turn .loop .i))
 
-  noted-next : {sums : List Float} {order : List ℕ} {known : List Bool} {met : ℕ} → Noting (start .args .reported) (before ++ (here ∷ [])) sums order known met → Noting (start .args .reported) (segmentsIn (rows start) (turn .loop .i + 1)) sums order known met
+  noted-next : {sums : List Float} {order : List ℕ} {known : List Bool} {met : ℕ} → Noting (start .args .reported) (before ++ (here ∷ [])) sums order known met → Noting (start .args .reported) (stretchesIn (rows start) (turn .loop .i + 1)) sums order known met
   noted-next {sums} {order} {known} {met} n = subst (λ (l : List Segment). Noting (start .args .reported) l sums order known met) next n
 
 -- its key's number
@@ -79,13 +78,13 @@ array-write-known c = search needs
 
 loop-holds : tie.Need-loop-holds Inv-loop μ-loop
 unfolding list ofBits
-loop-holds c = let s = c .before .before .before .before in (zero-le, noting-start (s .args .reported) (s .pre .0))
+loop-holds c = let s = c .before .before .before in (zero-le, noting-start (s .args .reported) (s .pre .0))
 
 add-next : tie.Need-add-next Inv-loop μ-loop
 add-next c = search needs
 
-segment-at-requires : tie.Need-segment-at-requires Inv-loop μ-loop
-segment-at-requires c κs = search needs
+stretch-at-requires : tie.Need-stretch-at-requires Inv-loop μ-loop
+stretch-at-requires c κs = search needs
 
 is-lasting-requires : tie.Need-is-lasting-requires Inv-loop μ-loop
 is-lasting-requires c κs = search needs
@@ -150,9 +149,9 @@ loop-again-3 c =
 returns : tie.Need-returns Inv-loop μ-loop
 returns c =
     let turn = c .before in
-    let s = turn .before .before .before .before .before in
+    let s = turn .before .before .before .before in
     let all : turn .loop .i ≡ s .args .count = omega (arith, turn .loop .inv .0, c .loop-test .left) in
-    noting-all (s .args .reported) (segmentsIn (rows s) (turn .loop .i)) _ _ _ _ (turn .loop .inv .1) ∙ ap (λ (n : ℕ). notedOf (s .args .reported) (segmentsIn (rows s) n)) all
+    noting-all (s .args .reported) (stretchesIn (rows s) (turn .loop .i)) _ _ _ _ (turn .loop .inv .1) ∙ ap (λ (n : ℕ). notedOf (s .args .reported) (stretchesIn (rows s) n)) all
 
 pub note-segments-spec : {M : Type 1} → statement M
 note-segments-spec =
@@ -164,7 +163,7 @@ note-segments-spec =
     array-write-known
     loop-holds
     add-next
-    segment-at-requires
+    stretch-at-requires
     is-lasting-requires
     key-number-requires
     cast-at

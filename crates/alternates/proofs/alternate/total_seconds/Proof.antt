@@ -7,8 +7,7 @@ use borrow.Author.Needs.{needs}
 use Rattle.laws.specs.Front.{list}
 use Rattle.laws.specs.Lists.{fold}
 use Rattle.laws.proofs.Front.{list-more}
-use Rattle.timeline.specs.Segments.{SegmentRows, lentSegments, segmentIn, segmentsIn}
-use Rattle.timeline.specs.inside.Segments.{segmentRows}
+use Rattle.timeline.specs.inside.Segments.{Stretches, stretches, lentStretches, stretchIn, stretchesIn}
 use Rattle.timeline.specs.declared.segment.Segment.{Segment}
 use Rattle.alternates.specs.Alternate.{heldSeconds, totalOf}
 use Rattle.alternates.proofs.Sums.{total-more}
@@ -16,21 +15,21 @@ use Rattle.alternates.proofs.alternate.total_seconds.Statement.{stateme
 use Rattle.alternates.proofs.alternate.total_seconds.Tie as tie
 
 abbrev Inv-loop : tie.InvT-loop
-Inv-loop count starts ends keys confidences sum₀ i₀ sum i = (i ≤ count) × (sum ≡ totalOf (segmentsIn (segmentRows starts ends keys confidences) i))
+Inv-loop count starts ends keys sum₀ i₀ sum i = (i ≤ count) × (sum ≡ totalOf (stretchesIn (stretches starts ends keys) i))
 
 abbrev μ-loop : tie.MeasureT-loop
-μ-loop count starts ends keys confidences sum₀ i₀ sum i = count - i
+μ-loop count starts ends keys sum₀ i₀ sum i = count - i
 
--- the rows that the call is lent
-abbrev rows : tie.Start Inv-loop μ-loop → SegmentRows
-rows s = lentSegments (s .args .starts) (s .args .ends) (s .args .keys) (s .args .confidences)
+-- the columns that the call is lent
+abbrev rows : tie.Start Inv-loop μ-loop → Stretches
+rows s = lentStretches (s .args .starts) (s .args .ends) (s .args .keys)
 
 loop-holds : tie.Need-loop-holds Inv-loop μ-loop
 unfolding totalOf list fold ofBits neg
 loop-holds c = (zero-le, refl)
 
-segment-at-requires : tie.Need-segment-at-requires Inv-loop μ-loop
-segment-at-requires c κs = search needs
+stretch-at-requires : tie.Need-stretch-at-requires Inv-loop μ-loop
+stretch-at-requires c κs = search needs
 
 with-length-requires : tie.Need-with-length-requires Inv-loop μ-loop
 with-length-requires c κs = search needs
@@ -44,18 +43,18 @@ loop-less c = search needs
 loop-again : tie.Need-loop-again Inv-loop μ-loop
 loop-again c =
     let turn = c .before .before .before in
-    let s = turn .before .before .before .before .before in
+    let s = turn .before .before .before .before in
     let i = turn .loop .i in
     let inside = c .before .before .loop-test .taken in
-    let told = c .with-length .ensures ∙ ap (λ (x : Segment). add binary64 (turn .loop .sum) (heldSeconds x)) (c .before .segment-at .ensures) ∙ ap (λ (x : Float). add binary64 x (heldSeconds (segmentIn (rows s) i))) (turn .loop .inv .1) in
-    (omega (arith, inside), told ∙ sym (total-more (segmentsIn (rows s) i) (segmentIn (rows s) i)) ∙ ap totalOf (sym (list-more (segmentIn (rows s)) i)))
+    let told = c .with-length .ensures ∙ ap (λ (x : Segment). add binary64 (turn .loop .sum) (heldSeconds x)) (c .before .stretch-at .ensures) ∙ ap (λ (x : Float). add binary64 x (heldSeconds (stretchIn (rows s) i))) (turn .loop .inv .1) in
+    (omega (arith, inside), told ∙ sym (total-more (stretchesIn (rows s) i) (stretchIn (rows s) i)) ∙ ap totalOf (sym (list-more (stretchIn (rows s)) i)))
 
 returns : tie.Need-returns Inv-loop μ-loop
 returns c =
     let turn = c .before in
-    let s = turn .before .before .before .before .before in
+    let s = turn .before .before .before .before in
     let all : turn .loop .i ≡ s .args .count = omega (arith, turn .loop .inv .0, c .loop-test .left) in
-    turn .loop .inv .1 ∙ ap (λ (n : ℕ). totalOf (segmentsIn (rows s) n)) all
+    turn .loop .inv .1 ∙ ap (λ (n : ℕ). totalOf (stretchesIn (rows s) n)) all
 
 pub total-seconds-spec : {M : Type 1} → statement M
 total-seconds-spec =
@@ -64,7 +63,7 @@ total-seconds-spec =
     Inv-loop
     μ-loop
     loop-holds
-    segment-at-requires
+    stretch-at-requires
     with-length-requires
     add-i
     loop-less

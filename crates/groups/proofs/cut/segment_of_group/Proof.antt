@@ -10,6 +10,9 @@ majority-key-requires c κs = c .before .before .pre .0
 stored-key-requires : tie.Need-stored-key-requires
 stored-key-requires c κs = search needs
 
+cast-windows : tie.Need-cast-windows
+cast-windows c = search needs
+
 mean-confidence-requires : tie.Need-mean-confidence-requires
 mean-confidence-requires c κs = search needs
 
@@ -19,4 +22,4 @@ returns c = cc
 
 pub segment-of-group-spec : {M : Type 1} → statement M
 segment-of-group-spec =
-    tie.close (tie.spec majority-key-requires stored-key-requires mean-confidence-requires returns)
+    tie.close (tie.spec majority-key-requires stored-key-requires cast-windows mean-confidence-requires returns)

@@ -29,7 +29,7 @@ part-segment-of-group-end-2 : tie.Need-part-segment-of-group-end-2
 part-segment-of-group-end-2 c = search needs
 
 segment-of-group-requires : tie.Need-segment-of-group-requires
-segment-of-group-requires c κs = let s = c .before .before .before .before .before .before .before .before in (part-numbered (s .args .numbers .now) (s .args .group .from) (s .args .group .to) (s .pre .0) (s .pre .1) (s .pre .4), search needs)
+segment-of-group-requires c κs = let s = c .before .before .before .before .before .before .before .before .before in (part-numbered (s .args .numbers .now) (s .args .group .from) (s .args .group .to) (s .pre .0) (s .pre .1) (s .pre .4), search needs)
 
 put-segment-requires : tie.Need-put-segment-requires
 put-segment-requires c κs = search needs
@@ -46,13 +46,16 @@ same-length-3 c = search needs
 same-length-4 : tie.Need-same-length-4
 same-length-4 c = search needs
 
+same-length-5 : tie.Need-same-length-5
+same-length-5 c = search needs
+
 returns : tie.Need-returns
 returns c =
-    let put = c .before .before .before .before .before .before .before .before in
-    let group = put .before .before .before .before .before in
-    let args = group .before .before .before .before .before .before .before .before .before .args in
+    let put = c .before .before .before .before .before .before .before .before .before .before in
+    let group = put .before .before .before .before .before .before in
+    let args = group .before .before .before .before .before .before .before .before .before .before .args in
     put .put-segment .ensures
-    ∙ ap (λ (s : Segment). putSegment s (args .n) (segmentRows (args .starts .now) (args .ends .now) (args .keys .now) (args .confidences .now))) (group .segment-of-group .ensures)
+    ∙ ap (λ (s : Segment). putSegment s (args .n) (segmentRows (args .starts .now) (args .ends .now) (args .keys .now) (args .confidences .now) (args .counts .now))) (group .segment-of-group .ensures)
 
 pub write-group-spec : {M : Type 1} → statement M
 write-group-spec =
@@ -71,4 +74,5 @@ write-group-spec =
     same-length-2
     same-length-3
     same-length-4
+    same-length-5
     returns)

@@ -1,6 +1,5 @@
 -- Each return is a branch of the definition.
-use mathlib.Core.Path.{_≡_, sym, ap}
-use mathlib.Core.Bool.{Bool, true, false, cond}
+use mathlib.Core.Path.{_≡_, sym, ap₂, _∙_}
 use borrow.Author.Needs.{needs}
 use Rattle.laws.specs.Order.{totalOrder}
 use Rattle.timeline.specs.Segments.{seconds}
@@ -17,19 +16,17 @@ segment-seconds-requires-2 c κs = search needs
 total-before-requires : tie.Need-total-before-requires
 total-before-requires c κs = search needs
 
+-- the test asks whether the best is no longer than the other
+told : (c : tie.After-total-before) → let args = c .before .before .before .args in c .total-before .result ≡ totalOrder (seconds (args .best)) (seconds (args .segment))
+told c = c .total-before .ensures ∙ ap₂ totalOrder (c .before .before .segment-seconds .ensures) (c .before .segment-seconds2 .ensures)
+
 returns : tie.Need-returns
 unfolding longer
-returns c =
-    let args = c .before .before .before .before .args in
-    let up : totalOrder (seconds (args .best)) (seconds (args .segment)) ≡ true = cc in
-    sym (ap (λ (b : Bool). cond b (args .segment) (args .best)) up)
+returns c = rw (sym (told (c .before)) ∙ c .if1 .taken)
 
 returns-2 : tie.Need-returns-2
 unfolding longer
-returns-2 c =
-    let args = c .before .before .before .before .args in
-    let above : totalOrder (seconds (args .best)) (seconds (args .segment)) ≡ false = cc in
-    sym (ap (λ (b : Bool). cond b (args .segment) (args .best)) above)
+returns-2 c = rw (sym (told (c .before)) ∙ c .if1 .left)
 
 pub longer-of-spec : {M : Type 1} → statement M
 longer-of-spec =

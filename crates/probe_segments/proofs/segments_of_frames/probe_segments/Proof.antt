@@ -46,15 +46,18 @@ same-length-7 c = search needs
 same-length-8 : tie.Need-same-length-8
 same-length-8 c = search needs
 
+same-length-9 : tie.Need-same-length-9
+same-length-9 c = search needs
+
 returns : tie.Need-returns
 returns c =
     let test = c .before in
     let room = test .before in
-    let lent = room .before .before .before .before .before in
+    let lent = room .before .before .before .before .before .before in
     let asked = lent .before .before .before .before .before in
     let span = asked .before in
-    let args = span .before .before .before .before .before .before .before .before .before .before .args in
-    not-run (args .settings) (args .samples) (probedTrack (args .settings) (args .samples) (args .key) (args .confidence)) (args .centres .now) (args .values .now) (estimateRows (args .middles .now) (args .numbers .now) (args .certainties .now) (args .shapeless .now)) (segmentRows (args .starts .now) (args .ends .now) (args .keys .now) (args .confidences .now)) (span .span-of .ensures) (asked .rows-asked .ensures) (lent .estimate-room .ensures) (room .segment-room .ensures) (test .can-run .ensures) (c .if1 .taken)
+    let args = span .before .before .before .before .before .before .before .before .before .before .before .args in
+    not-run (args .settings) (args .samples) (probedTrack (args .settings) (args .samples) (args .key) (args .confidence)) (args .centres .now) (args .values .now) (estimateRows (args .middles .now) (args .numbers .now) (args .certainties .now) (args .shapeless .now)) (segmentRows (args .starts .now) (args .ends .now) (args .keys .now) (args .confidences .now) (args .counts .now)) (span .span-of .ensures) (asked .rows-asked .ensures) (lent .estimate-room .ensures) (room .segment-room .ensures) (test .can-run .ensures) (c .if1 .taken)
 
 probed-track-requires : tie.Need-probed-track-requires
 probed-track-requires c κs = search needs
@@ -64,18 +67,15 @@ fewer-requires c κs = search needs
 
 locate-segments-requires : tie.Need-locate-segments-requires
 locate-segments-requires c κs =
-    let few = c .before .before .before .before .before .before .before .before in
+    let few = c .before .before .before .before .before .before .before .before .before in
     let guard = few .before .before in
     let test = guard .before in
     let room = test .before in
-    let lent = room .before .before .before .before .before in
+    let lent = room .before .before .before .before .before .before in
     let asked = lent .before .before .before .before .before in
     let span = asked .before in
-    let args = span .before .before .before .before .before .before .before .before .before .before .args in
-    locate-needs (args .settings) (args .samples) (probedTrack (args .settings) (args .samples) (args .key) (args .confidence)) (args .centres .now) (args .values .now) (estimateRows (args .middles .now) (args .numbers .now) (args .certainties .now) (args .shapeless .now)) (segmentRows (args .starts .now) (args .ends .now) (args .keys .now) (args .confidences .now)) (span .span-of .ensures) (asked .rows-asked .ensures) (lent .estimate-room .ensures) (room .segment-room .ensures) (test .can-run .ensures) (guard .if1 .left) (few .fewer .ensures)
-
-same-length-9 : tie.Need-same-length-9
-same-length-9 c = search needs
+    let args = span .before .before .before .before .before .before .before .before .before .before .before .args in
+    locate-needs (args .settings) (args .samples) (probedTrack (args .settings) (args .samples) (args .key) (args .confidence)) (args .centres .now) (args .values .now) (estimateRows (args .middles .now) (args .numbers .now) (args .certainties .now) (args .shapeless .now)) (segmentRows (args .starts .now) (args .ends .now) (args .keys .now) (args .confidences .now) (args .counts .now)) (span .span-of .ensures) (asked .rows-asked .ensures) (lent .estimate-room .ensures) (room .segment-room .ensures) (test .can-run .ensures) (guard .if1 .left) (few .fewer .ensures)
 
 same-length-10 : tie.Need-same-length-10
 same-length-10 c = search needs
@@ -98,19 +98,25 @@ same-length-15 c = search needs
 same-length-16 : tie.Need-same-length-16
 same-length-16 c = search needs
 
+same-length-17 : tie.Need-same-length-17
+same-length-17 c = search needs
+
+same-length-18 : tie.Need-same-length-18
+same-length-18 c = search needs
+
 returns-2 : tie.Need-returns-2
 returns-2 c =
-    let locate = c .before .before .before .before .before .before .before .before .before .before .before .before .before .before .before .before in
-    let few = locate .before .before .before .before .before .before .before .before .before in
+    let locate = c .before .before .before .before .before .before .before .before .before .before .before .before .before .before .before .before .before .before in
+    let few = locate .before .before .before .before .before .before .before .before .before .before in
     let track = few .before in
     let guard = track .before in
     let test = guard .before in
     let room = test .before in
-    let lent = room .before .before .before .before .before in
+    let lent = room .before .before .before .before .before .before in
     let asked = lent .before .before .before .before .before in
     let span = asked .before in
-    let args = span .before .before .before .before .before .before .before .before .before .before .args in
-    located-so (args .settings) (args .samples) (probedTrack (args .settings) (args .samples) (args .key) (args .confidence)) (args .centres .now) (args .values .now) (estimateRows (args .middles .now) (args .numbers .now) (args .certainties .now) (args .shapeless .now)) (segmentRows (args .starts .now) (args .ends .now) (args .keys .now) (args .confidences .now)) (span .span-of .ensures) (asked .rows-asked .ensures) (lent .estimate-room .ensures) (room .segment-room .ensures) (test .can-run .ensures) (guard .if1 .left) (few .fewer .ensures) (track .probed-track .ensures) (locate .locate-segments .ensures)
+    let args = span .before .before .before .before .before .before .before .before .before .before .before .args in
+    located-so (args .settings) (args .samples) (probedTrack (args .settings) (args .samples) (args .key) (args .confidence)) (args .centres .now) (args .values .now) (estimateRows (args .middles .now) (args .numbers .now) (args .certainties .now) (args .shapeless .now)) (segmentRows (args .starts .now) (args .ends .now) (args .keys .now) (args .confidences .now) (args .counts .now)) (span .span-of .ensures) (asked .rows-asked .ensures) (lent .estimate-room .ensures) (room .segment-room .ensures) (test .can-run .ensures) (guard .if1 .left) (few .fewer .ensures) (track .probed-track .ensures) (locate .locate-segments .ensures)
 
 pub probe-segments-spec : {M : Type 1} → statement M
 probe-segments-spec =
@@ -129,11 +135,11 @@ probe-segments-spec =
     same-length-6
     same-length-7
     same-length-8
+    same-length-9
     returns
     probed-track-requires
     fewer-requires
     locate-segments-requires
-    same-length-9
     same-length-10
     same-length-11
     same-length-12
@@ -141,4 +147,6 @@ probe-segments-spec =
     same-length-14
     same-length-15
     same-length-16
+    same-length-17
+    same-length-18
     returns-2)

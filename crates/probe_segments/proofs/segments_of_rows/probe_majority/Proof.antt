@@ -1,7 +1,8 @@
 -- The leaf where each number is a key's.
 use borrow.Author.Needs.{needs}
-use mathlib.Core.Path.{_≡_, sym, _∙_}
+use mathlib.Core.Path.{_≡_, sym, subst, _∙_}
 use mathlib.Core.Bool.{true}
+use lib.Dec.{T}
 use lib.ListN.{length}
 use Rattle.probe_segments.specs.Segments.{allNumbers}
 use Rattle.probe_segments.proofs.Segmenting.{numbered}
@@ -16,7 +17,7 @@ all-numbers-requires : tie.Need-all-numbers-requires
 all-numbers-requires c κs = search needs
 
 majority-key-requires : tie.Need-majority-key-requires
-majority-key-requires c κs = numbered (c .before .before .before .args .numbers .now) _ (all-are c)
+majority-key-requires c κs = numbered (c .before .before .before .args .numbers .now) _ (subst T (sym (all-are c)) tt)
 
 returns : tie.Need-returns
 returns c = rw (all-are (c .before)) (c .majority-key .ensures)

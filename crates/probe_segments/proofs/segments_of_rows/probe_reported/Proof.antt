@@ -3,8 +3,8 @@ use borrow.Author.Needs.{needs}
 use Rattle.probe_segments.proofs.segments_of_rows.probe_reported.Statement.{statement}
 use Rattle.probe_segments.proofs.segments_of_rows.probe_reported.Tie as tie
 
-segment-room-requires : tie.Need-segment-room-requires
-segment-room-requires c κs = search needs
+stretch-room-requires : tie.Need-stretch-room-requires
+stretch-room-requires c κs = search needs
 
 stored-key-requires : tie.Need-stored-key-requires
 stored-key-requires c κs = search needs
@@ -22,7 +22,7 @@ pub probe-reported-spec : {M : Type 1} → statement M
 probe-reported-spec =
     tie.close
     (tie.spec
-    segment-room-requires
+    stretch-room-requires
     stored-key-requires
     reported-key-requires
     key-number-requires

@@ -1,4 +1,4 @@
--- Past the guard all keys are numbers.
+-- Past the guard all keys are numbers and the counts fit.
 use borrow.Author.Needs.{needs}
 use Rattle.timeline.specs.inside.Segments.{segmentRows}
 use Rattle.probe_segments.proofs.Segmenting.{not-shortened, shorten-needs, shortened}
@@ -8,8 +8,8 @@ use Rattle.probe_segments.proofs.segments_of_rows.probe_shorten.Tie as 
 segment-room-requires : tie.Need-segment-room-requires
 segment-room-requires c κs = search needs
 
-all-numbers-requires : tie.Need-all-numbers-requires
-all-numbers-requires c κs = search needs
+can-shorten-requires : tie.Need-can-shorten-requires
+can-shorten-requires c κs = search needs
 
 same-length : tie.Need-same-length
 same-length c = search needs
@@ -23,21 +23,21 @@ same-length-3 c = search needs
 same-length-4 : tie.Need-same-length-4
 same-length-4 c = search needs
 
+same-length-5 : tie.Need-same-length-5
+same-length-5 c = search needs
+
 returns : tie.Need-returns
 returns c =
-    let count = c .before .before .before in
-    let args = count .before .before .before .before .before .before .before .before .before .args in
-    not-shortened (args .least) (segmentRows (args .starts .now) (args .ends .now) (args .keys .now) (args .confidences .now)) (count .segment-room .ensures) (c .before .all-numbers .ensures) (c .if1 .taken)
+    let count = c .before .before .before .before in
+    let args = count .before .before .before .before .before .before .before .before .before .before .before .args in
+    not-shortened (args .least) (segmentRows (args .starts .now) (args .ends .now) (args .keys .now) (args .confidences .now) (args .counts .now)) (count .segment-room .ensures) (c .before .can-shorten .ensures) (c .if1 .taken)
 
 shorten-segments-requires : tie.Need-shorten-segments-requires
 shorten-segments-requires c κs =
-    let guard = c .before .before .before .before in
-    let count = guard .before .before .before in
-    let args = count .before .before .before .before .before .before .before .before .before .args in
-    shorten-needs (args .least) (segmentRows (args .starts .now) (args .ends .now) (args .keys .now) (args .confidences .now)) (count .segment-room .ensures) (guard .before .all-numbers .ensures) (guard .if1 .left)
-
-same-length-5 : tie.Need-same-length-5
-same-length-5 c = search needs
+    let guard = c .before .before .before .before .before in
+    let count = guard .before .before .before .before in
+    let args = count .before .before .before .before .before .before .before .before .before .before .before .args in
+    shorten-needs (args .least) (segmentRows (args .starts .now) (args .ends .now) (args .keys .now) (args .confidences .now) (args .counts .now)) (count .segment-room .ensures) (guard .before .can-shorten .ensures) (guard .if1 .left)
 
 same-length-6 : tie.Need-same-length-6
 same-length-6 c = search needs
@@ -48,28 +48,36 @@ same-length-7 c = search needs
 same-length-8 : tie.Need-same-length-8
 same-length-8 c = search needs
 
+same-length-9 : tie.Need-same-length-9
+same-length-9 c = search needs
+
+same-length-10 : tie.Need-same-length-10
+same-length-10 c = search needs
+
 returns-2 : tie.Need-returns-2
 returns-2 c =
-    let short = c .before .before .before .before .before .before .before .before in
-    let guard = short .before .before .before .before .before in
-    let count = guard .before .before .before in
-    let args = count .before .before .before .before .before .before .before .before .before .args in
-    shortened (args .least) (segmentRows (args .starts .now) (args .ends .now) (args .keys .now) (args .confidences .now)) (count .segment-room .ensures) (guard .before .all-numbers .ensures) (guard .if1 .left) (short .shorten-segments .ensures)
+    let short = c .before .before .before .before .before .before .before .before .before .before in
+    let guard = short .before .before .before .before .before .before in
+    let count = guard .before .before .before .before in
+    let args = count .before .before .before .before .before .before .before .before .before .before .before .args in
+    shortened (args .least) (segmentRows (args .starts .now) (args .ends .now) (args .keys .now) (args .confidences .now) (args .counts .now)) (count .segment-room .ensures) (guard .before .can-shorten .ensures) (guard .if1 .left) (short .shorten-segments .ensures)
 
 pub probe-shorten-spec : {M : Type 1} → statement M
 probe-shorten-spec =
     tie.close
     (tie.spec
     segment-room-requires
-    all-numbers-requires
+    can-shorten-requires
     same-length
     same-length-2
     same-length-3
     same-length-4
+    same-length-5
     returns
     shorten-segments-requires
-    same-length-5
     same-length-6
     same-length-7
     same-length-8
+    same-length-9
+    same-length-10
     returns-2)

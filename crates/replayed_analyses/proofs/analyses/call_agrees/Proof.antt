@@ -7,12 +7,12 @@ use Rattle.replayed_analyses.proofs.analyses.call_agrees.Statement.{sta
 use Rattle.replayed_analyses.proofs.analyses.call_agrees.Tie as tie
 
 -- where the analysis is made, seen from where all its rows are lent again
-abbrev made : tie.After-confidences3 → tie.After-analyse
-made c = c .before .before .before .before .before .before .before .before .before .before .before .before .before .before .before .before .before .before .before .before .before .before .before .before
+abbrev made : tie.After-counts3 → tie.After-analyse
+made c = c .before .before .before .before .before .before .before .before .before .before .before .before .before .before .before .before .before .before .before .before .before .before .before .before .before .before
 
 -- the call's start, seen from there
 abbrev start : tie.After-analyse → tie.Start
-start c = c .before .before .before .before .before .before .before .before .before .before .before .before .before .before .before .before .before .before .before .before .before
+start c = c .before .before .before .before .before .before .before .before .before .before .before .before .before .before .before .before .before .before .before .before .before .before
 
 slice-aggregate-analyse : tie.Need-slice-aggregate-analyse
 slice-aggregate-analyse c = search needs
@@ -49,6 +49,9 @@ slice-aggregate-analyse-11 c = search needs
 
 slice-aggregate-analyse-12 : tie.Need-slice-aggregate-analyse-12
 slice-aggregate-analyse-12 c = search needs
+
+slice-aggregate-analyse-13 : tie.Need-slice-aggregate-analyse-13
+slice-aggregate-analyse-13 c = search needs
 
 analyse-requires : tie.Need-analyse-requires
 analyse-requires c κs = search needs
@@ -89,6 +92,9 @@ slice-aggregate-outcome-agrees-11 c = search needs
 slice-aggregate-outcome-agrees-12 : tie.Need-slice-aggregate-outcome-agrees-12
 slice-aggregate-outcome-agrees-12 c = search needs
 
+slice-aggregate-outcome-agrees-13 : tie.Need-slice-aggregate-outcome-agrees-13
+slice-aggregate-outcome-agrees-13 c = search needs
+
 outcome-agrees-requires : tie.Need-outcome-agrees-requires
 outcome-agrees-requires c κs = (
   start (made c) .pre,
@@ -105,6 +111,7 @@ outcome-agrees-requires c κs = (
     ends = search needs;
     keys = search needs;
     confidences = search needs;
+    counts = search needs;
   },
 )
 
@@ -128,6 +135,7 @@ call-agrees-spec =
     slice-aggregate-analyse-10
     slice-aggregate-analyse-11
     slice-aggregate-analyse-12
+    slice-aggregate-analyse-13
     analyse-requires
     slice-aggregate-outcome-agrees
     slice-aggregate-outcome-agrees-2
@@ -141,5 +149,6 @@ call-agrees-spec =
     slice-aggregate-outcome-agrees-10
     slice-aggregate-outcome-agrees-11
     slice-aggregate-outcome-agrees-12
+    slice-aggregate-outcome-agrees-13
     outcome-agrees-requires
     returns)

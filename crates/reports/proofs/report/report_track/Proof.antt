@@ -3,8 +3,9 @@ use borrow.Author.Needs.{needs}
 use Rattle.timeline.specs.inside.Estimates.{estimateRows}
 use Rattle.timeline.specs.inside.Segments.{segmentRows}
 use Rattle.gathering.specs.Gather.{heard}
+use Rattle.timeline.proofs.Segments.{stretched-there}
 use Rattle.segments.proofs.Located.{located-room}
-use Rattle.reports.proofs.Reports.{prepared-span, report-so}
+use Rattle.reports.proofs.Reports.{prepared-span, told-so, report-so}
 use Rattle.reports.proofs.report.report_track.Statement.{statement}
 use Rattle.reports.proofs.report.report_track.Tie as tie
 
@@ -16,15 +17,15 @@ track-of-requires c κs = search needs
 
 locate-segments-requires : tie.Need-locate-segments-requires
 locate-segments-requires c κs =
-    let track = c .before .before .before .before .before .before .before .before in
-    prepared-span (track .before .span-of .ensures) (track .before .before .before .before .before .before .before .before .before .before .before .pre)
+    let track = c .before .before .before .before .before .before .before .before .before in
+    prepared-span (track .before .span-of .ensures) (track .before .before .before .before .before .before .before .before .before .before .before .before .pre)
 
 name-keys-requires : tie.Need-name-keys-requires
 name-keys-requires c κs =
-    let locate = c .before .before .before .before .before .before .before .before .before .before .before .before .before .before .before .before .before .before .before .before in
-    let track = locate .before .before .before .before .before .before .before .before .before in
-    let args = track .before .before .before .before .before .before .before .before .before .before .before .args in
-    located-room (track .before .span-of .result) (track .track-of .result) (heard (args .frames) (args .centres .now) (args .values .now)) (estimateRows (args .middles .now) (args .numbers .now) (args .certainties .now) (args .shapeless .now)) (segmentRows (args .starts .now) (args .ends .now) (args .keys .now) (args .confidences .now)) (locate .locate-segments .ensures)
+    let locate = c .before .before .before .before .before .before .before .before .before .before .before .before .before .before .before .before .before .before .before .before .before in
+    let track = locate .before .before .before .before .before .before .before .before .before .before in
+    let args = track .before .before .before .before .before .before .before .before .before .before .before .before .args in
+    stretched-there _ (located-room (track .before .span-of .result) (track .track-of .result) (heard (args .frames) (args .centres .now) (args .values .now)) (estimateRows (args .middles .now) (args .numbers .now) (args .certainties .now) (args .shapeless .now)) (segmentRows (args .starts .now) (args .ends .now) (args .keys .now) (args .confidences .now) (args .counts .now)) (locate .locate-segments .ensures))
 
 same-length : tie.Need-same-length
 same-length c = search needs
@@ -50,12 +51,15 @@ same-length-7 c = search needs
 same-length-8 : tie.Need-same-length-8
 same-length-8 c = search needs
 
+same-length-9 : tie.Need-same-length-9
+same-length-9 c = search needs
+
 returns : tie.Need-returns
 returns c =
-    let locate = c .before .before .before .before .before .before .before .before .before .before .before .before .before .before .before .before .before .before .before .before .before in
-    let track = locate .before .before .before .before .before .before .before .before .before in
-    let args = track .before .before .before .before .before .before .before .before .before .before .before .args in
-    report-so (args .settings) (args .samples) (args .verdict) (heard (args .frames) (args .centres .now) (args .values .now)) (estimateRows (args .middles .now) (args .numbers .now) (args .certainties .now) (args .shapeless .now)) (segmentRows (args .starts .now) (args .ends .now) (args .keys .now) (args .confidences .now)) (track .before .span-of .ensures) (track .track-of .ensures) (locate .locate-segments .ensures) (c .name-keys .ensures)
+    let locate = c .before .before .before .before .before .before .before .before .before .before .before .before .before .before .before .before .before .before .before .before .before .before in
+    let track = locate .before .before .before .before .before .before .before .before .before .before in
+    let args = track .before .before .before .before .before .before .before .before .before .before .before .before .args in
+    report-so (args .settings) (args .samples) (args .verdict) (heard (args .frames) (args .centres .now) (args .values .now)) (estimateRows (args .middles .now) (args .numbers .now) (args .certainties .now) (args .shapeless .now)) (segmentRows (args .starts .now) (args .ends .now) (args .keys .now) (args .confidences .now) (args .counts .now)) (track .before .span-of .ensures) (track .track-of .ensures) (locate .locate-segments .ensures) (told-so (args .settings) (args .verdict) (args .frames) _ (locate .locate-segments .result) (c .name-keys .ensures))
 
 pub report-track-spec : {M : Type 1} → statement M
 report-track-spec =
@@ -73,4 +77,5 @@ report-track-spec =
     same-length-6
     same-length-7
     same-length-8
+    same-length-9
     returns)

@@ -22,17 +22,18 @@ same-length-3 c = search needs
 same-length-4 : tie.Need-same-length-4
 same-length-4 c = search needs
 
+same-length-5 : tie.Need-same-length-5
+same-length-5 c = search needs
+
 returns : tie.Need-returns
 returns c =
-    let cut = c .before .before .before .before .before .before .before .before in
-    let args = cut .before .before .before .before .before .before .before .before .before .before .before .before .before .args in
-    groups-cut (args .track) (columns (args .middles .now) (args .numbers .now) (args .certainties .now)) (args .found) (segmentRows (args .starts .now) (args .ends .now) (args .keys .now) (args .confidences .now)) (cut .before .before .before .before .before .if1 .taken) (cut .cut-groups .ensures)
+    let cut = c .before .before .before .before .before .before .before .before .before .before in
+    let test = cut .before .before .before .before .before .before in
+    let args = test .before .before .before .before .before .before .before .before .before .args in
+    groups-cut (args .track) (columns (args .middles .now) (args .numbers .now) (args .certainties .now)) (args .found) (segmentRows (args .starts .now) (args .ends .now) (args .keys .now) (args .confidences .now) (args .counts .now)) (test .if1 .taken) (cut .cut-groups .ensures)
 
 put-segment-requires : tie.Need-put-segment-requires
 put-segment-requires c κs = search needs
-
-same-length-5 : tie.Need-same-length-5
-same-length-5 c = search needs
 
 same-length-6 : tie.Need-same-length-6
 same-length-6 c = search needs
@@ -43,13 +44,20 @@ same-length-7 c = search needs
 same-length-8 : tie.Need-same-length-8
 same-length-8 c = search needs
 
+same-length-9 : tie.Need-same-length-9
+same-length-9 c = search needs
+
+same-length-10 : tie.Need-same-length-10
+same-length-10 c = search needs
+
 returns-2 : tie.Need-returns-2
 unfolding ofBits
 returns-2 c =
-    let put = c .before .before .before .before .before .before .before .before in
-    let start = put .before .before .before .before .before .before .before .before .before .before .before .before .before .before in
+    let put = c .before .before .before .before .before .before .before .before .before .before in
+    let test = put .before .before .before .before .before .before .before in
+    let start = test .before .before .before .before .before .before .before .before .before in
     let args = start .args in
-    whole-cut (args .track) (columns (args .middles .now) (args .numbers .now) (args .certainties .now)) (args .found) (segmentRows (args .starts .now) (args .ends .now) (args .keys .now) (args .confidences .now)) (put .before .before .before .before .before .before .if1 .left) (start .pre .2) (put .put-segment .ensures)
+    whole-cut (args .track) (columns (args .middles .now) (args .numbers .now) (args .certainties .now)) (args .found) (segmentRows (args .starts .now) (args .ends .now) (args .keys .now) (args .confidences .now) (args .counts .now)) (test .if1 .left) (start .pre .2) (put .put-segment .ensures)
 
 pub cut-track-spec : {M : Type 1} → statement M
 cut-track-spec =
@@ -60,10 +68,12 @@ cut-track-spec =
     same-length-2
     same-length-3
     same-length-4
+    same-length-5
     returns
     put-segment-requires
-    same-length-5
     same-length-6
     same-length-7
     same-length-8
+    same-length-9
+    same-length-10
     returns-2)

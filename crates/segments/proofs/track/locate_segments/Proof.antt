@@ -13,15 +13,15 @@ count-windows-requires c κs = search needs
 fill-estimates-requires : tie.Need-fill-estimates-requires
 fill-estimates-requires c κs =
     let count = c .before .before .before .before in
-    prepared-run (count .count-windows .ensures) (count .before .before .before .before .before .before .before .before .before .before .pre)
+    prepared-run (count .count-windows .ensures) (count .before .before .before .before .before .before .before .before .before .before .before .pre)
 
 fill-segments-requires : tie.Need-fill-segments-requires
 fill-segments-requires c κs =
-    let run = c .before .before .before .before .before .before .before .before .before .before .before .before .before .before .before in
+    let run = c .before .before .before .before .before .before .before .before .before .before .before .before .before .before .before .before in
     let count = run .before .before .before .before .before in
-    let start = count .before .before .before .before .before .before .before .before .before .before in
+    let start = count .before .before .before .before .before .before .before .before .before .before .before in
     let args = start .args in
-    run-needs (args .span) (heard (args .frames) (args .centres .now) (args .values .now)) (estimateRows (args .middles .now) (args .numbers .now) (args .certainties .now) (args .shapeless .now)) (count .count-windows .ensures) (run .fill-estimates .ensures) (segmentRows (args .starts .now) (args .ends .now) (args .keys .now) (args .confidences .now)) (start .pre)
+    run-needs (args .span) (heard (args .frames) (args .centres .now) (args .values .now)) (estimateRows (args .middles .now) (args .numbers .now) (args .certainties .now) (args .shapeless .now)) (count .count-windows .ensures) (run .fill-estimates .ensures) (segmentRows (args .starts .now) (args .ends .now) (args .keys .now) (args .confidences .now) (args .counts .now)) (start .pre)
 
 same-length : tie.Need-same-length
 same-length c = search needs
@@ -47,13 +47,16 @@ same-length-7 c = search needs
 same-length-8 : tie.Need-same-length-8
 same-length-8 c = search needs
 
+same-length-9 : tie.Need-same-length-9
+same-length-9 c = search needs
+
 returns : tie.Need-returns
 returns c =
-    let fill = c .before .before .before .before .before .before .before .before in
-    let run = fill .before .before .before .before .before .before .before .before .before .before .before .before .before .before .before .before in
+    let fill = c .before .before .before .before .before .before .before .before .before .before in
+    let run = fill .before .before .before .before .before .before .before .before .before .before .before .before .before .before .before .before .before in
     let count = run .before .before .before .before .before in
-    let args = count .before .before .before .before .before .before .before .before .before .before .args in
-    located-so (args .span) (heard (args .frames) (args .centres .now) (args .values .now)) (estimateRows (args .middles .now) (args .numbers .now) (args .certainties .now) (args .shapeless .now)) (count .count-windows .ensures) (run .fill-estimates .ensures) (args .track) (segmentRows (args .starts .now) (args .ends .now) (args .keys .now) (args .confidences .now)) (fill .fill-segments .ensures)
+    let args = count .before .before .before .before .before .before .before .before .before .before .before .args in
+    located-so (args .span) (heard (args .frames) (args .centres .now) (args .values .now)) (estimateRows (args .middles .now) (args .numbers .now) (args .certainties .now) (args .shapeless .now)) (count .count-windows .ensures) (run .fill-estimates .ensures) (args .track) (segmentRows (args .starts .now) (args .ends .now) (args .keys .now) (args .confidences .now) (args .counts .now)) (fill .fill-segments .ensures)
 
 pub locate-segments-spec : {M : Type 1} → statement M
 locate-segments-spec =
@@ -70,4 +73,5 @@ locate-segments-spec =
     same-length-6
     same-length-7
     same-length-8
+    same-length-9
     returns)

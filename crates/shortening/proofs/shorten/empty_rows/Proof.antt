@@ -7,13 +7,13 @@ use Rattle.shortening.proofs.shorten.empty_rows.Statement.{statement}
 use Rattle.shortening.proofs.shorten.empty_rows.Tie as tie
 
 abbrev Inv-loop : tie.InvT-loop
-Inv-loop from count starts₀ ends₀ keys₀ confidences₀ i₀ starts ends keys confidences i = Emptying from count (segmentRows starts₀ ends₀ keys₀ confidences₀) (segmentRows starts ends keys confidences) i
+Inv-loop from count starts₀ ends₀ keys₀ confidences₀ counts₀ i₀ starts ends keys confidences counts i = Emptying from count (segmentRows starts₀ ends₀ keys₀ confidences₀ counts₀) (segmentRows starts ends keys confidences counts) i
 
 abbrev μ-loop : tie.MeasureT-loop
-μ-loop from count starts₀ ends₀ keys₀ confidences₀ i₀ starts ends keys confidences i = count - i
+μ-loop from count starts₀ ends₀ keys₀ confidences₀ counts₀ i₀ starts ends keys confidences counts i = count - i
 
 loop-holds : tie.Need-loop-holds Inv-loop μ-loop
-loop-holds c = let start = c .before .before .before .before in emptying-start _ (start .pre .0) (start .pre .1)
+loop-holds c = let start = c .before .before .before .before .before in emptying-start _ (start .pre .0) (start .pre .1)
 
 emptied-segment-requires : tie.Need-emptied-segment-requires Inv-loop μ-loop
 emptied-segment-requires c κs = search needs
@@ -29,8 +29,8 @@ loop-less c = search needs
 
 loop-again : tie.Need-loop-again Inv-loop μ-loop
 loop-again c =
-    let put = c .before .before .before .before .before .before .before .before in
-    let made = put .before .before .before .before .before in
+    let put = c .before .before .before .before .before .before .before .before .before .before in
+    let made = put .before .before .before .before .before .before in
     let turn = made .before in
     emptying-more (turn .before .loop .inv) (turn .loop-test .taken) (made .emptied-segment .ensures) (put .put-segment .ensures)
 
@@ -45,6 +45,9 @@ same-length-3 c = c .before .loop .inv .keys .long
 
 same-length-4 : tie.Need-same-length-4 Inv-loop μ-loop
 same-length-4 c = c .before .loop .inv .confidences .long
+
+same-length-5 : tie.Need-same-length-5 Inv-loop μ-loop
+same-length-5 c = c .before .loop .inv .counts .long
 
 returns : tie.Need-returns Inv-loop μ-loop
 returns c = emptying-end (c .before .loop .inv) (c .loop-test .left)
@@ -65,4 +68,5 @@ empty-rows-spec =
     same-length-2
     same-length-3
     same-length-4
+    same-length-5
     returns)

@@ -1,7 +1,7 @@
 -- What the calls ensure, put together.
 use mathlib.Core.Path.{_∙_}
 use native.Mathlib.Omega.{arith}
-use Rattle.shortening.proofs.Shortens.{in-room, joined-is}
+use Rattle.shortening.proofs.Shortens.{in-room, joinable-is, joined-is}
 use borrow.Author.Needs.{needs}
 use Rattle.shortening.proofs.shorten.join_rows.Statement.{statement}
 use Rattle.shortening.proofs.shorten.join_rows.Tie as tie
@@ -16,10 +16,12 @@ segment-at-requires-2 : tie.Need-segment-at-requires-2
 segment-at-requires-2 c κs = search needs
 
 join-segments-requires : tie.Need-join-segments-requires
-join-segments-requires c κs = search needs
+join-segments-requires c κs =
+    let first = c .before .before .before .before .before .before in
+    joinable-is _ _ _ (first .segment-at .ensures) (c .segment-at2 .ensures) (first .before .before .before .before .before .before .before .before .before .before .before .pre .1)
 
 put-segment-requires : tie.Need-put-segment-requires
-put-segment-requires c κs = let start = c .before .before .before .before .before .before .before .before .before .before .before .before .before .before .before .before .before .before .before in in-room (start .pre) (omega arith)
+put-segment-requires c κs = let start = c .before .before .before .before .before .before .before .before .before .before .before .before .before .before .before .before .before .before .before .before .before .before .before in in-room (start .pre .0) (omega arith)
 
 same-length : tie.Need-same-length
 same-length c = search needs
@@ -33,11 +35,15 @@ same-length-3 c = search needs
 same-length-4 : tie.Need-same-length-4
 same-length-4 c = search needs
 
+same-length-5 : tie.Need-same-length-5
+same-length-5 c = search needs
+
 returns : tie.Need-returns
 returns c =
-    let put = c .before .before .before .before .before .before .before .before in
-    let made = put .before .before .before .before .before in
-    put .put-segment .ensures ∙ joined-is _ _ (made .before .before .before .before .before .before .segment-at .ensures) (made .before .segment-at2 .ensures) (made .join-segments .ensures)
+    let put = c .before .before .before .before .before .before .before .before .before .before in
+    let made = put .before .before .before .before .before .before in
+    let second = made .before in
+    put .put-segment .ensures ∙ joined-is _ _ (second .before .before .before .before .before .before .segment-at .ensures) (second .segment-at2 .ensures) (made .join-segments .ensures)
 
 pub join-rows-spec : {M : Type 1} → statement M
 join-rows-spec =
@@ -52,4 +58,5 @@ join-rows-spec =
     same-length-2
     same-length-3
     same-length-4
+    same-length-5
     returns)

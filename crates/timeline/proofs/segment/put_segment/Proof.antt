@@ -1,5 +1,9 @@
--- What the calls ensure, put together.
+-- What is put into each column, the key by its number.
+use mathlib.Core.Path.{ap}
+use Prim.Native.Nat.{ℕ}
+use lib.ListN.{set}
 use borrow.Author.Needs.{needs}
+use Rattle.timeline.specs.inside.Segments.{segmentRows}
 use Rattle.timeline.proofs.segment.put_segment.Statement.{statement}
 use Rattle.timeline.proofs.segment.put_segment.Tie as tie
 
@@ -27,6 +31,12 @@ mul-confidences c = search needs
 slice-write-confidences : tie.Need-slice-write-confidences
 slice-write-confidences c = search needs
 
+mul-counts : tie.Need-mul-counts
+mul-counts c = search needs
+
+slice-write-counts : tie.Need-slice-write-counts
+slice-write-counts c = search needs
+
 same-length : tie.Need-same-length
 same-length c = search needs
 
@@ -39,8 +49,15 @@ same-length-3 c = search needs
 same-length-4 : tie.Need-same-length-4
 same-length-4 c = search needs
 
+same-length-5 : tie.Need-same-length-5
+same-length-5 c = search needs
+
 returns : tie.Need-returns
-returns c = cc
+returns c =
+    let args = c .before .before .before .before .before .before .before .args in
+    let segment = args .segment in
+    let n = args .n in
+    ap (λ (number : ℕ). segmentRows (set (args .starts .now) n (segment .start)) (set (args .ends .now) n (segment .end)) (set (args .keys .now) n number) (set (args .confidences .now) n (segment .confidence)) (set (args .counts .now) n (segment .windows))) (c .key-number .ensures)
 
 pub put-segment-spec : {M : Type 1} → statement M
 put-segment-spec =
@@ -54,8 +71,11 @@ put-segment-spec =
     slice-write-keys
     mul-confidences
     slice-write-confidences
+    mul-counts
+    slice-write-counts
     same-length
     same-length-2
     same-length-3
     same-length-4
+    same-length-5
     returns)
