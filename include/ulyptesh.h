@@ -38,7 +38,7 @@ extern "C" {
 /* The number of the interface; it grows when a struct, a parameter or a meaning changes, and ulyptesh_abi answers the
    library's own. A new call leaves it, so a program that loads the library at run time compares the two, and looks up a
    call that is newer by its name. */
-#define ULYPTESH_ABI 3
+#define ULYPTESH_ABI 4
 /* Numbers in a chroma, from C upward. */
 #define ULYPTESH_PITCH_CLASSES 12
 /* Keys, and so scores of a chroma. */
@@ -205,7 +205,8 @@ UlypteshFramesResult *ulyptesh_frames(
     float *energies, size_t energy_count); /* P; their energies, finite, from the front */
 
 /* Analyses a track. P and what is read are as above. W, the windows, is how many of the starts 0, hop, hop + hop and so
-   on (f64 sums) lie a window or more before the end; 1 where the duration is below window + hop. */
+   on (f64 sums) lie a window or more before the end; 1 where the duration is below window + hop. The segments' counts
+   add up to the answer's estimates, so the one segment of a track without estimates has 0; cards do not carry them. */
 UlypteshAnalyseResult *ulyptesh_analyse(
     UlypteshAnalyseResult *answer, /* written whole */
     UlypteshSettings settings,
@@ -228,7 +229,8 @@ UlypteshAnalyseResult *ulyptesh_analyse(
     double *starts, size_t start_count, /* W; the segments' starts in seconds, then a zero for each one joined away */
     double *ends, size_t end_count, /* W; their ends in seconds, then zeros likewise */
     uint8_t *keys, size_t key_count, /* W; their keys, then zeros likewise */
-    float *confidences, size_t confidence_count); /* W; their confidences, then zeros; a NaN is not ruled out */
+    float *confidences, size_t confidence_count, /* W; their confidences, then zeros; a NaN is not ruled out */
+    uint32_t *counts, size_t count_count); /* W; how many windows' estimates each rests on, then zeros likewise */
 
 /* Writes the scores of the 24 keys of a chroma. */
 UlypteshScoresResult ulyptesh_scores(

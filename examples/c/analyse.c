@@ -82,8 +82,9 @@ static void print_segments(const UlypteshEasy *easy, size_t count)
     char name[ULYPTESH_EASY_NAME_BYTES];
     for (size_t number = 0; number < count; number++) {
         UlypteshEasySegment segment = ulyptesh_easy_segment(easy, number);
-        printf("%.3f s to %.3f s: %s, confidence %.3f\n", segment.start, segment.end,
-               ulyptesh_easy_key_name(segment.key, name), segment.confidence);
+        printf("%.3f s to %.3f s: %s, confidence %.3f, %u window%s\n", segment.start, segment.end,
+               ulyptesh_easy_key_name(segment.key, name), segment.confidence, (unsigned)segment.windows,
+               segment.windows == 1 ? "" : "s");
     }
 }
 

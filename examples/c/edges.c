@@ -65,7 +65,7 @@ static UlypteshAnalyseResult analysed(UlypteshSettings settings, UlypteshSheetHe
     UlypteshAnalyseResult told;
     ulyptesh_analyse(&told, settings, head, track, samples, values, window, NULL, 0, NULL, 0, NULL, 0, NULL, 0, NULL, 0,
                      NULL, 0, NULL, 0, NULL, 0, NULL, 0, NULL, 0, NULL, 0, NULL, 0, NULL, 0, NULL, 0, NULL, 0, NULL, 0,
-                     NULL, 0);
+                     NULL, 0, NULL, 0);
     return told;
 }
 
@@ -134,22 +134,27 @@ static int some_slices(void)
         && HOLDS(card.refusal == ULYPTESH_DONE && card.length == sizeof bytes);
 }
 
-/* Rows for a track; those for shapes are 9 before each analysis. */
+/* Rows for a track; those for shapes and for counts of windows are 9 before each analysis. */
 static double centres[ROOM], middles[ROOM], starts[ROOM], ends[ROOM];
 static float values[ROOM][ULYPTESH_PITCH_CLASSES], energies[ROOM], work[ROOM], certainties[ROOM], confidences[ROOM];
 static uint8_t numbers[ROOM], shapeless[ROOM], keys[ROOM];
+static uint32_t counts[ROOM];
 
-/* An analysis over these rows, of which so many are for shapes, by a sheet of Goertzel rows alone. */
+/* An analysis over these rows, of which so many are for shapes and so many for counts, by a sheet of Goertzel rows
+   alone. */
 static UlypteshAnalyseResult analysed_by(UlypteshSettings settings, const float *samples, size_t sample_count,
                                          const float *window, const float *coefficients, const float *weights,
-                                         size_t rows, size_t shapeless_rows)
+                                         size_t rows, size_t shapeless_rows, size_t count_rows)
 {
     UlypteshAnalyseResult told;
     memset(shapeless, 9, sizeof shapeless);
+    for (size_t at = 0; at < ROOM; at++)
+        counts[at] = 9;
     ulyptesh_analyse(&told, settings, head_for(settings), samples, sample_count, window, settings.frame_size,
                      coefficients, rows, weights, rows, NULL, 0, NULL, 0, NULL, 0, centres, ROOM, values, ROOM,
                      energies, ROOM, work, ROOM, middles, ROOM, numbers, ROOM, certainties, ROOM, shapeless,
-                     shapeless_rows, starts, ROOM, ends, ROOM, keys, ROOM, confidences, ROOM);
+                     shapeless_rows, starts, ROOM, ends, ROOM, keys, ROOM, confidences, ROOM,
+                     count_rows > 0 ? counts : NULL, count_rows);
     return told;
 }
 
@@ -162,6 +167,15 @@ static int marked(size_t count, uint8_t mark)
     return same;
 }
 
+/* Whether so many rows for counts hold this number, and those behind them stay. */
+static int counted(size_t count, uint32_t windows)
+{
+    int same = 1;
+    for (size_t at = 0; at < ROOM; at++)
+        same = same && counts[at] == (at < count ? windows : 9);
+    return same;
+}
+
 /* Such a sheet, and room for a track: its loud frames are found, and it tells no key. */
 static int no_rows(void)
 {
@@ -169,15 +183,17 @@ static int no_rows(void)
     UlypteshFramesResult frames;
     ulyptesh_frames(&frames, settings, head_for(settings), tone, SHORT, tone, settings.frame_size, NULL, 0, NULL, 0,
                     NULL, 0, NULL, 0, NULL, 0, centres, ROOM, values, ROOM, energies, ROOM);
-    UlypteshAnalyseResult told = analysed_by(settings, tone, SHORT, tone, NULL, NULL, 0, ROOM);
+    UlypteshAnalyseResult told = analysed_by(settings, tone, SHORT, tone, NULL, NULL, 0, ROOM, ROOM);
     return HOLDS(frames.refusal == ULYPTESH_DONE && frames.count > 0)
         && HOLDS(told.refusal == ULYPTESH_DONE && told.frames == frames.count && told.key == ULYPTESH_NO_KEY)
-        && HOLDS(told.shapeless == 0 && marked(0, 0));
+        && HOLDS(told.shapeless == 0 && marked(0, 0) && counted(0, 0));
 }
 
 /* Half a minute that is equally strong in twelve notes, or stronger in some: a click ends each frame, which all notes
-   hear alike, and one before it they do not. It has four windows, over so many rows for their shapes. */
-static UlypteshAnalyseResult analysed_clicks(float before_last, size_t shapeless_rows, uint32_t engine)
+   hear alike, and one before it they do not. It has four windows and one segment, over so many rows for their shapes
+   and for the windows behind it. */
+static UlypteshAnalyseResult analysed_clicks(float before_last, size_t shapeless_rows, size_t count_rows,
+                                             uint32_t engine)
 {
     static const float COEFFICIENTS[12] = {2, 1, 1, 0, 1.5f, 0, -1, 1.5f, -1, 0, -2, 0};
     static const float WEIGHTS[12] = {1, 1, 1, 1, 1, 1, 1, 1, 1, 1, 1, 1};
@@ -193,21 +209,42 @@ static UlypteshAnalyseResult analysed_clicks(float before_last, size_t shapeless
         clicks[end - 1] = 0.5f;
         clicks[end - 2] = before_last;
     }
-    return analysed_by(settings, clicks, LONG, window, COEFFICIENTS, WEIGHTS, 12, shapeless_rows);
+    return analysed_by(settings, clicks, LONG, window, COEFFICIENTS, WEIGHTS, 12, shapeless_rows, count_rows);
 }
 
 /* An even track and its windows have no shape, one that is not even has one, and a row too few is refused. */
 static int track_shapes(void)
 {
-    UlypteshAnalyseResult told = analysed_clicks(0.0f, 4, ULYPTESH_SIDE_BY_SIDE);
+    UlypteshAnalyseResult told = analysed_clicks(0.0f, 4, ROOM, ULYPTESH_SIDE_BY_SIDE);
     int done = HOLDS(told.refusal == ULYPTESH_DONE && told.key < ULYPTESH_NO_KEY && told.estimates == 4)
         && HOLDS(told.shapeless == 1 && marked(4, 1));
-    told = analysed_clicks(0.25f, ROOM, ULYPTESH_SIDE_BY_SIDE);
+    told = analysed_clicks(0.25f, ROOM, ROOM, ULYPTESH_SIDE_BY_SIDE);
     done = done && HOLDS(told.refusal == ULYPTESH_DONE && told.key < ULYPTESH_NO_KEY && told.estimates == 4)
         && HOLDS(told.shapeless == 0 && marked(4, 0));
-    told = analysed_clicks(0.0f, 3, ULYPTESH_SIDE_BY_SIDE);
+    told = analysed_clicks(0.0f, 3, ROOM, ULYPTESH_SIDE_BY_SIDE);
     return done && HOLDS(told.refusal == ULYPTESH_TOO_FEW_ROWS && told.key == ULYPTESH_NO_KEY)
-        && HOLDS(told.shapeless == 0 && marked(0, 0));
+        && HOLDS(told.shapeless == 0 && marked(0, 0) && counted(0, 0));
+}
+
+/* Whether a track is refused for want of rows, with so many for shapes and so many for counts, and none is written. */
+static int too_few_rows(size_t shapeless_rows, size_t count_rows)
+{
+    UlypteshAnalyseResult told = analysed_clicks(0.25f, shapeless_rows, count_rows, ULYPTESH_SIDE_BY_SIDE);
+    return HOLDS(told.refusal == ULYPTESH_TOO_FEW_ROWS && told.key == ULYPTESH_NO_KEY && told.segments == 0)
+        && HOLDS(marked(0, 0) && counted(0, 0));
+}
+
+/* All four windows stand behind the segment, over a number for each of them and over more; a number too few is refused,
+   alone and beside other rows, and so is none. */
+static int track_windows(void)
+{
+    int done = 1;
+    for (size_t rows = 4; rows <= ROOM; rows += ROOM - 4) {
+        UlypteshAnalyseResult told = analysed_clicks(0.25f, ROOM, rows, ULYPTESH_SIDE_BY_SIDE);
+        done = done && HOLDS(told.refusal == ULYPTESH_DONE && told.estimates == 4 && told.segments == 1)
+            && HOLDS(counted(1, 4));
+    }
+    return done && too_few_rows(ROOM, 3) && too_few_rows(3, 3) && too_few_rows(ROOM, 0);
 }
 
 /* A sheet for 44,100 Hz is refused at 48,000. */
@@ -225,13 +262,13 @@ static int other_sheet(void)
 /* A track that is analysed with either engine is refused with another number, and no row is written. */
 static int engine_refused(void)
 {
-    UlypteshAnalyseResult told = analysed_clicks(0.0f, ROOM, ULYPTESH_FOUR_AT_A_TIME);
+    UlypteshAnalyseResult told = analysed_clicks(0.0f, ROOM, ROOM, ULYPTESH_FOUR_AT_A_TIME);
     int done = HOLDS(told.refusal == ULYPTESH_DONE && told.frames > 0 && energies[0] > 0.0f && marked(4, 1));
     energies[0] = -1.0f;
-    told = analysed_clicks(0.0f, ROOM, NO_ENGINE);
+    told = analysed_clicks(0.0f, ROOM, ROOM, NO_ENGINE);
     done = done && HOLDS(told.refusal == ULYPTESH_UNKNOWN_ENGINE && told.key == ULYPTESH_NO_KEY && told.frames == 0)
-        && HOLDS(energies[0] == -1.0f && marked(0, 0));
-    return done && HOLDS(analysed_clicks(0.0f, ROOM, UINT32_MAX).refusal == ULYPTESH_UNKNOWN_ENGINE);
+        && HOLDS(energies[0] == -1.0f && marked(0, 0) && counted(0, 0));
+    return done && HOLDS(analysed_clicks(0.0f, ROOM, ROOM, UINT32_MAX).refusal == ULYPTESH_UNKNOWN_ENGINE);
 }
 
 /* Whether analyse and frames answer these numbers, over a sheet whose window alone has entries. */
@@ -582,7 +619,7 @@ static int track_refused(UlypteshEasy *easy)
     return HOLDS(status == ULYPTESH_FRAME_NOT_FINITE) && HOLDS(told.refusal == status && told.position == told.frames)
         && HOLDS(told.shapeless == 0 && ulyptesh_easy_estimate(easy, 0).key == ULYPTESH_NO_KEY)
         && HOLDS(ulyptesh_easy_frame(easy, 0).energy > 0.0f)
-        && HOLDS(ulyptesh_easy_segment(easy, 0).key == ULYPTESH_NO_KEY)
+        && HOLDS(ulyptesh_easy_segment(easy, 0).key == ULYPTESH_NO_KEY && ulyptesh_easy_segment(easy, 0).windows == 0)
         && HOLDS(ulyptesh_easy_write_card(easy, card, sizeof card).refusal == ULYPTESH_UNWRITABLE);
 }
 
@@ -608,7 +645,8 @@ static int told_as_c_major(UlypteshEasy *easy, size_t samples)
         && HOLDS(told.key == 0 && told.segments == 1 && told.shapeless == 0)
         && HOLDS(told.estimates == (samples == LONG ? 4 : 0)) && estimates_in_c_major(easy, told.estimates)
         && HOLDS(ulyptesh_easy_segment(easy, 0).end == (double)samples / RATE)
-        && HOLDS(ulyptesh_easy_segment(easy, 1).key == ULYPTESH_NO_KEY)
+        && HOLDS(ulyptesh_easy_segment(easy, 0).windows == told.estimates)
+        && HOLDS(ulyptesh_easy_segment(easy, 1).key == ULYPTESH_NO_KEY && ulyptesh_easy_segment(easy, 1).windows == 0)
         && HOLDS(ulyptesh_easy_write_card(easy, card, sizeof card).length == sizeof card);
 }
 
@@ -692,12 +730,12 @@ static int without_allocation(int k)
     return done;
 }
 
-/* 1 for itself, 6 for its sheet, 12 for its rows. */
+/* 1 for itself, 6 for its sheet, 13 for its rows. */
 static int no_memory(void)
 {
     int done = 1;
     fill_tone();
-    for (int k = 0; k < 19; k++)
+    for (int k = 0; k < 20; k++)
         done = done && without_allocation(k);
     return done;
 }
@@ -711,6 +749,7 @@ static const struct {
     {"some-slices", some_slices},
     {"no-rows", no_rows},
     {"track-shapes", track_shapes},
+    {"track-windows", track_windows},
     {"other-sheet", other_sheet},
     {"engine-refused", engine_refused},
     {"engine-in-order", engine_in_order},

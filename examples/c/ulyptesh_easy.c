@@ -30,6 +30,7 @@ typedef struct {
     double *starts, *ends;
     uint8_t *keys;
     float *confidences;
+    uint32_t *counts;
 } Rows;
 
 struct UlypteshEasy {
@@ -198,8 +199,10 @@ static int allocate_rows(Rows *rows, size_t positions, size_t windows)
     rows->ends = zeros(windows, sizeof *rows->ends);
     rows->keys = zeros(windows, sizeof *rows->keys);
     rows->confidences = zeros(windows, sizeof *rows->confidences);
+    rows->counts = zeros(windows, sizeof *rows->counts);
     return rows->centres && rows->values && rows->energies && rows->work && rows->middles && rows->numbers
-        && rows->certainties && rows->shapeless && rows->starts && rows->ends && rows->keys && rows->confidences;
+        && rows->certainties && rows->shapeless && rows->starts && rows->ends && rows->keys && rows->confidences
+        && rows->counts;
 }
 
 static void free_rows(Rows *rows)
@@ -216,6 +219,7 @@ static void free_rows(Rows *rows)
     free(rows->ends);
     free(rows->keys);
     free(rows->confidences);
+    free(rows->counts);
     memset(rows, 0, sizeof *rows);
 }
 
@@ -252,7 +256,7 @@ static UlypteshAnalyseResult analysed(UlypteshEasy *easy, const float *samples, 
                      rows->middles, rows->windows, rows->numbers, rows->windows, rows->certainties, rows->windows,
                      rows->shapeless, rows->windows,
                      rows->starts, rows->windows, rows->ends, rows->windows, rows->keys, rows->windows,
-                     rows->confidences, rows->windows);
+                     rows->confidences, rows->windows, rows->counts, rows->windows);
     return answer;
 }
 
@@ -375,12 +379,13 @@ uint32_t ulyptesh_easy_frames(UlypteshEasy *easy, const float *samples, size_t s
 UlypteshEasySegment ulyptesh_easy_segment(const UlypteshEasy *easy, size_t number)
 {
     const Rows *rows = &easy->rows;
-    UlypteshEasySegment segment = {0.0, 0.0, ULYPTESH_NO_KEY, 0.0f};
+    UlypteshEasySegment segment = {0.0, 0.0, ULYPTESH_NO_KEY, 0.0f, 0};
     if (number < easy->last.segments) {
         segment.start = rows->starts[number];
         segment.end = rows->ends[number];
         segment.key = rows->keys[number];
         segment.confidence = rows->confidences[number];
+        segment.windows = rows->counts[number];
     }
     return segment;
 }

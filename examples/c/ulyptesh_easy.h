@@ -29,6 +29,7 @@ typedef struct UlypteshEasySegment {
     double start, end; /* in seconds */
     uint32_t key;
     float confidence;
+    uint32_t windows; /* how many windows' estimates it rests on; 0 in a track without estimates */
 } UlypteshEasySegment;
 
 /* What one local window of a track tells. */

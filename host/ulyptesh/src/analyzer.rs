@@ -173,6 +173,7 @@ fn segment(rows: &SegmentRows, row: usize) -> Segment {
         end: rows.ends[row],
         key: Key::try_from(rows.keys[row]).expect("a segment has a key"),
         confidence: rows.confidences[row],
+        windows: rows.counts[row],
     }
 }
 
@@ -301,6 +302,36 @@ mod tests {
         let (told, marks) = told_of(&mut analyzer(), &tone_and_clicks());
         assert_eq!(marks, [false, false, false, false, true, true]);
         assert_eq!((told.estimate_count, told.shapeless_estimate_count, told.shapeless), (6, 2, false));
+    }
+
+    /// How many windows stand behind each segment of a track, with those shorter than this joined, and its estimates.
+    fn windows_behind(minimum: f32, track: &[f32]) -> (Vec<u32>, usize) {
+        let settings = settings().with(|settings| {
+            settings.minimum_segment_seconds = minimum;
+            settings.segment_confidence_threshold = 0.0;
+        });
+        let (told, _) = told_of(&mut Analyzer::new(settings).expect("settings that are taken"), track);
+        (told.segments.iter().map(|segment| segment.windows).collect(), told.estimate_count)
+    }
+
+    #[test]
+    fn the_windows_behind_all_segments_are_the_estimates() {
+        for minimum in [0.0, 7.0, 13.0, 1e9] {
+            let (windows, estimates) = windows_behind(minimum, &tone_and_clicks());
+            assert_eq!((windows.iter().sum::<u32>(), estimates), (6, 6), "at least {minimum} s: {windows:?}");
+        }
+    }
+
+    #[test]
+    fn joining_adds_the_windows() {
+        let (apart, _) = windows_behind(0.0, &tone_and_clicks());
+        assert!(apart.len() > 1 && !apart.contains(&0), "{apart:?}");
+        assert_eq!(windows_behind(1e9, &tone_and_clicks()), (vec![6], 6));
+    }
+
+    #[test]
+    fn no_window_stands_behind_a_brief_track() {
+        assert_eq!(windows_behind(0.0, &tone(11)), (vec![0], 0));
     }
 
     #[test]

@@ -16,6 +16,9 @@ pub struct Segment {
     pub key: Key,
     /// The mean of its windows' confidences, from 0 to 1; where short segments were joined, the earliest one's.
     pub confidence: f32,
+    /// How many windows' estimates it rests on, those of all that were joined; 0 for the one segment of a track without
+    /// estimates.
+    pub windows: u32,
 }
 
 /// Another key that much of the track is in.
@@ -52,7 +55,7 @@ pub struct Analysis {
     pub segments: Vec<Segment>,
     /// How many frames were loud.
     pub loud_frame_count: usize,
-    /// How many windows told a key.
+    /// How many windows told a key: the sum of the segments' [`windows`](Segment::windows).
     pub estimate_count: usize,
     /// How many of these windows have a chroma without shape.
     pub shapeless_estimate_count: usize,

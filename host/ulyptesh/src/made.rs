@@ -76,6 +76,7 @@ pub fn analysis(told: &Told) -> Analysis {
         end: told.ends[at],
         key: Key::ALL[usize::from(told.keys[at])],
         confidence: told.confidences[at],
+        windows: 0,
     };
     let key = |number: u32| Key::try_from(number).ok();
     Analysis {

@@ -6,6 +6,7 @@ pub mod floored;
 pub mod magnitudes;
 pub mod shapes;
 pub mod tables;
+pub mod windows_behind;
 
 use self::key_lime::expose::key_number;
 use self::key_lime::{ChromaFrame, KeyConfig, MusicalKey};

@@ -57,6 +57,8 @@ unsafe extern "C" {
         key_count: usize,
         confidences: *mut f32,
         confidence_count: usize,
+        counts: *mut u32,
+        count_count: usize,
     ) -> usize;
 
     fn probe_reported(
@@ -67,8 +69,6 @@ unsafe extern "C" {
         end_count: usize,
         keys: *const u8,
         key_count: usize,
-        confidences: *const f32,
-        confidence_count: usize,
     ) -> u8;
 
     fn probe_alternate(
@@ -80,8 +80,6 @@ unsafe extern "C" {
         end_count: usize,
         keys: *const u8,
         key_count: usize,
-        confidences: *const f32,
-        confidence_count: usize,
     ) -> ProbedAlternate;
 
     fn probe_cut(
@@ -104,6 +102,8 @@ unsafe extern "C" {
         key_count: usize,
         confidences: *mut f32,
         confidence_count: usize,
+        counts: *mut u32,
+        count_count: usize,
     ) -> usize;
 
     fn probe_segments(
@@ -132,6 +132,8 @@ unsafe extern "C" {
         key_count: usize,
         confidences: *mut f32,
         confidence_count: usize,
+        counts: *mut u32,
+        count_count: usize,
     ) -> *mut ProbedSegments;
 }
 
@@ -141,7 +143,8 @@ pub fn majority(numbers: &[u8]) -> u8 {
     unsafe { probe_majority(numbers.as_ptr(), numbers.len()) }
 }
 
-/// Joins all short segments, and tells how many are left; emptied rows hold zeros.
+/// Joins all short segments, and tells how many are left; emptied rows hold zeros. Where a number is no key's, or the
+/// counts add up to 2^32 or more, it is 0 and no row changes.
 pub fn shorten(least: f64, rows: &mut SegmentRows) -> usize {
     // SAFETY: each pointer and its count are one exclusive slice, which outlives the call.
     unsafe {
@@ -155,6 +158,8 @@ pub fn shorten(least: f64, rows: &mut SegmentRows) -> usize {
             rows.keys.len(),
             rows.confidences.as_mut_ptr(),
             rows.confidences.len(),
+            rows.counts.as_mut_ptr(),
+            rows.counts.len(),
         )
     }
 }
@@ -171,8 +176,6 @@ pub fn reported(classified: u8, rows: &SegmentRows) -> u8 {
             rows.ends.len(),
             rows.keys.as_ptr(),
             rows.keys.len(),
-            rows.confidences.as_ptr(),
-            rows.confidences.len(),
         )
     }
 }
@@ -190,8 +193,6 @@ pub fn alternate(reported: u8, threshold: f32, rows: &SegmentRows) -> ProbedAlte
             rows.ends.len(),
             rows.keys.as_ptr(),
             rows.keys.len(),
-            rows.confidences.as_ptr(),
-            rows.confidences.len(),
         )
     }
 }
@@ -220,6 +221,8 @@ pub fn cut(cutting: Cutting, estimates: &EstimateRows, rows: &mut SegmentRows) -
             rows.keys.len(),
             rows.confidences.as_mut_ptr(),
             rows.confidences.len(),
+            rows.counts.as_mut_ptr(),
+            rows.counts.len(),
         )
     }
 }
@@ -256,6 +259,8 @@ pub fn segments(track: &Track, estimates: &mut EstimateRows, rows: &mut SegmentR
                 rows.keys.len(),
                 rows.confidences.as_mut_ptr(),
                 rows.confidences.len(),
+                rows.counts.as_mut_ptr(),
+                rows.counts.len(),
             )
         })
     }

@@ -79,6 +79,8 @@ unsafe extern "C" {
         key_count: usize,
         confidences: *mut f32,
         confidence_count: usize,
+        counts: *mut u32,
+        count_count: usize,
     ) -> *mut AnalyseResult;
 }
 
@@ -132,6 +134,8 @@ pub fn analyse(settings: Settings, sheet: &Sheet, samples: &[f32], lent: &mut Bu
                 segments.keys.len(),
                 segments.confidences.as_mut_ptr(),
                 segments.confidences.len(),
+                segments.counts.as_mut_ptr(),
+                segments.counts.len(),
             )
         })
     }

@@ -37,6 +37,8 @@ pub struct SegmentRows {
     pub keys: Vec<u8>,
     /// The confidence in it.
     pub confidences: Vec<f32>,
+    /// How many windows' estimates it rests on.
+    pub counts: Vec<u32>,
 }
 
 /// Two windows a second of the longest track, and one: no track that is analysed has more.
@@ -104,6 +106,7 @@ impl Buffers {
         grow(&mut segments.ends, windows);
         grow(&mut segments.keys, windows);
         grow(&mut segments.confidences, windows);
+        grow(&mut segments.counts, windows);
     }
 
     /// At least as many frame rows as a track of so many samples needs; what is there stays.
@@ -129,5 +132,6 @@ impl Buffers {
             + size_of_val(&*segments.ends)
             + size_of_val(&*segments.keys)
             + size_of_val(&*segments.confidences)
+            + size_of_val(&*segments.counts)
     }
 }

@@ -25,8 +25,9 @@ ulyptesh analyse FILE.. --rate N [OPTION..]
   Of several segments the key is the longest one's. Where there is one segment, the key is that of the
   whole track's chroma, and its segment may tell another: unless --coverage forbids it, that one is then
   the alternate, with all of the track. The confidence is the whole chroma's, so it is low where a track
-  changes its key. A chroma whose pitch classes are all but equally strong has no shape: what it tells is
-  printed as ever and says little. A line says so of the whole track's, and one of how many windows'.
+  changes its key. A segment's line ends with how many local windows it rests on; 0 where none tells a
+  key. A chroma whose pitch classes are all but equally strong has no shape: what it tells is printed as
+  ever and says little. A line says so of the whole track's, and one of how many windows'.
 
   --json          an array with an object for each track
   --json-lines    an object a line for each track

@@ -75,20 +75,22 @@ fn list(items: impl Iterator<Item = String>, between: &str) -> String {
     format!("[{}]", items.collect::<Vec<_>>().join(between))
 }
 
-fn segment_object(start: Field, end: Field, key: Key, confidence: Field) -> String {
+/// The object of a segment; what is said behind its key differs between tracks and cards.
+fn segment_object(start: Field, end: Field, key: Key, behind: &[Field]) -> String {
     let key = Some(key);
     let fields = [("key", name(key)), ("key_number", key_number(key)), ("camelot", camelot(key))];
-    object(&[&[start, end], &fields[..], &[confidence]].concat(), ", ")
+    object(&[&[start, end], &fields[..], behind].concat(), ", ")
 }
 
 fn segment(told: &Segment) -> String {
     let (start, end) = (("start", number(told.start)), ("end", number(told.end)));
-    segment_object(start, end, told.key, ("confidence", number(told.confidence)))
+    let behind = [("confidence", number(told.confidence)), ("windows", told.windows.to_string())];
+    segment_object(start, end, told.key, &behind)
 }
 
 fn card_segment(told: &CardSegment) -> String {
     let (start, end) = (("start_ms", told.start_ms.to_string()), ("end_ms", told.end_ms.to_string()));
-    segment_object(start, end, told.key, ("confidence_thousandths", told.confidence.to_string()))
+    segment_object(start, end, told.key, &[("confidence_thousandths", told.confidence.to_string())])
 }
 
 /// The fields on a track's keys; what is said of the key in between.
@@ -177,8 +179,15 @@ mod tests {
     }
 
     #[test]
-    fn shapes_are_not_told_of_cards() {
+    fn windows_are_told_at_the_end_of_a_segment() {
+        assert!(has(", \"windows\": 0}]", |_| ()));
+        assert!(has(", \"windows\": 30}]", |told| told.segments[0].windows = 30));
+    }
+
+    #[test]
+    fn shapes_and_windows_are_not_told_of_cards() {
         let bytes = told_with(|told| told.shapeless = true).card().expect("a card");
-        assert!(!card("card", &Card::read(&bytes), Layout::OneLine).contains("shape"));
+        let told = card("card", &Card::read(&bytes), Layout::OneLine);
+        assert!(!told.contains("shape") && !told.contains("windows"), "{told}");
     }
 }

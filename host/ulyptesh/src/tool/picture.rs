@@ -1,7 +1,7 @@
 //! An analysis as a picture: the segments along the time, and the chroma below them.
 use super::hatching::{self, PATTERN, Stretch, stretches};
 use super::heat_map::{self, BOTTOM, LEGEND};
-use super::text::{NO_SHAPE, named};
+use super::text::{NO_SHAPE, named, windows};
 use std::iter;
 use ulyptesh::{Analysis, Analyzer, Key, LoudFrame, Mode, Segment};
 
@@ -152,7 +152,7 @@ impl<'a> Picture<'a> {
         let confidence = format!("confidence {number}");
         let border = self.told.lone_other_key().map_or(SEGMENT_BORDER, |_| OTHER_BORDER);
         let names = [named(key, None), key.name(), key.camelot()];
-        let title = format!("{}, {times}, {confidence}", names[0]);
+        let title = format!("{}, {times}, {confidence}, {}", names[0], windows(segment.windows));
         let lines = [
             self.line(segment, &names, LARGE_LETTER, 20, " font-size=\"15\" font-weight=\"bold\""),
             self.line(segment, &[confidence, number], SMALL_LETTER, 36, ""),
@@ -239,6 +239,14 @@ mod tests {
     /// How often a text stands in a picture.
     fn count(picture: &str, text: &str) -> usize {
         picture.matches(text).count()
+    }
+
+    #[test]
+    fn windows_behind_a_segment_are_told_to_whoever_points_at_it() {
+        for (windows, said) in [(0, ", 0 windows<"), (1, ", 1 window<"), (12, ", 12 windows<")] {
+            let picture = drawn(&told_with(|told| told.segments[0].windows = windows), vec![]);
+            assert_eq!(count(&picture, &format!("{said}/title>")), 1);
+        }
     }
 
     #[test]

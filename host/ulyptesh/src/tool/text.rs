@@ -29,6 +29,11 @@ fn shape_of_windows(told: &Analysis) -> Option<String> {
     (count > 0).then(|| format!("  no shape in {count} of {all} windows: their keys say little"))
 }
 
+/// How many windows stand behind a segment.
+pub fn windows(count: u32) -> String {
+    format!("{count} window{}", if count == 1 { "" } else { "s" })
+}
+
 /// The key, the alternate and the segments of a track, and where its chroma has no shape.
 pub fn lines(name: &str, told: &Analysis, notation: Option<Notation>) -> Vec<String> {
     let named = |key| named(key, notation);
@@ -43,7 +48,8 @@ pub fn lines(name: &str, told: &Analysis, notation: Option<Notation>) -> Vec<Str
     });
     lines.extend(told.segments.iter().map(|segment| {
         let (start, end, key) = (segment.start, segment.end, named(segment.key));
-        format!("  {start:6.2} s to {end:6.2} s: {key}, confidence {:.3}", segment.confidence)
+        let (confidence, windows) = (segment.confidence, windows(segment.windows));
+        format!("  {start:6.2} s to {end:6.2} s: {key}, confidence {confidence:.3}, {windows}")
     }));
     if told.lone_other_key().is_some() {
         lines.push("  the key is the whole track's; its one segment tells another".into());
@@ -62,6 +68,14 @@ mod tests {
     fn added(change: impl FnOnce(&mut Analysis)) -> Vec<String> {
         let told = told_with(change);
         lines("track", &told, None).split_off(2 + told.segments.len())
+    }
+
+    #[test]
+    fn windows_behind_a_segment_are_told_at_the_end_of_its_line() {
+        for (windows, said) in [(0, ", 0 windows"), (1, ", 1 window"), (28_801, ", 28801 windows")] {
+            let lines = lines("track", &told_with(|told| told.segments[0].windows = windows), None);
+            assert!(lines[2].ends_with(said), "{lines:?}");
+        }
     }
 
     #[test]

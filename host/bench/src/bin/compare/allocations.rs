@@ -102,7 +102,7 @@ fn refused() -> impl Iterator<Item = Asked> {
     BREACHES.iter().map(|breach| {
         let mut call = whole();
         (breach.breaks)(&mut call);
-        Asked { call, work: 7, rows: [1; 8] }
+        Asked { call, work: 7, rows: [1; 9] }
     })
 }
 

@@ -45,7 +45,7 @@ struct Told {
 compared_as_shown!(Told);
 
 fn rows(segments: &[Segment]) -> SegmentRows {
-    let mut rows = untouched_segments([segments.len(); 4]);
+    let mut rows = untouched_segments([segments.len(); 5]);
     put_segments(segments.iter().copied(), &mut rows);
     rows
 }

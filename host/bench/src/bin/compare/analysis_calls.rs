@@ -9,12 +9,12 @@ use ulyptesh::calls::{Sheet, frame_positions, windows};
 use ulyptesh::{Engine, Settings};
 
 /// A call for frames with the lengths of their rows, and of the rest that is lent: work numbers, four lists for
-/// estimates, four for segments.
+/// estimates, five for segments.
 #[derive(Clone)]
 pub struct Asked {
     pub call: frame_calls::Asked,
     pub work: usize,
-    pub rows: [usize; 8],
+    pub rows: [usize; 9],
 }
 
 /// The front of the table, which has one check more than that for frames.
@@ -27,7 +27,7 @@ impl Asked {
     /// A call that is lent as much as the wrapper tells.
     pub fn new(what: &'static str, settings: Settings, sheet: &Arc<Sheet>, samples: Vec<f32>) -> Self {
         let positions = frame_positions(&settings, samples.len());
-        let rows = [windows(&settings, samples.len()); 8];
+        let rows = [windows(&settings, samples.len()); 9];
         let (sheet, room) = (Arc::clone(sheet), [positions; 3]);
         Self { call: frame_calls::Asked { what, settings, sheet, samples, room }, work: positions, rows }
     }

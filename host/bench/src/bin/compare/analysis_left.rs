@@ -4,12 +4,13 @@ use crate::analysis_calls::Asked;
 use crate::both_engines::{self, by_both};
 use crate::card_rounds::{self, Round};
 use crate::groups::Compared;
+use crate::rows::windows_in_all;
 use ulyptesh::Settings;
 use ulyptesh::calls::{AnalyseResult, Buffers, EstimateRows, FrameRows, NO_KEY, SegmentRows, analyse};
 
 /// What the call answers, what it leaves in all that it was lent to write, whether all else stayed, its card, written
-/// and read, where the call is not refused, whether no end on it lies after the audio, and what the other engine leaves
-/// where that is something else.
+/// and read, where the call is not refused, whether no end on it lies after the audio, whether the windows behind its
+/// segments are in all as many as its estimates, and what the other engine leaves where that is something else.
 #[derive(Debug)]
 pub struct Left {
     pub answer: AnalyseResult,
@@ -17,6 +18,7 @@ pub struct Left {
     stayed: bool,
     card: Option<Round>,
     pub inside: bool,
+    windows_add_up: bool,
     pub other: Option<String>,
 }
 
@@ -38,11 +40,11 @@ fn told(answer: &AnalyseResult, segments: &SegmentRows) -> Told {
 }
 
 impl Left {
-    /// As is wanted: all else stayed, no end after the audio, the same by either engine; `ours` puts what it saw in
-    /// their place.
+    /// As is wanted: all else stayed, no end after the audio, as many windows as estimates, the same by either engine;
+    /// `ours` puts what it saw in their place.
     fn new(answer: AnalyseResult, lent: Buffers, round: fn(&Told) -> Round) -> Self {
         let card = (answer.refusal == 0).then(|| round(&told(&answer, &lent.segments)));
-        Self { answer, lent, stayed: true, card, inside: true, other: None }
+        Self { answer, lent, stayed: true, card, inside: true, windows_add_up: true, other: None }
     }
 
     /// What a call has to leave, by the oracle or the request's words.
@@ -59,6 +61,16 @@ impl Left {
     #[cfg(oracle)]
     pub fn shapeless(&self) -> &[u8] {
         &self.lent.estimates.shapeless[..self.answer.estimates as usize]
+    }
+
+    /// How many windows stand behind each of its segments.
+    pub fn windows(&self) -> &[u32] {
+        &self.lent.segments.counts[..self.answer.segments as usize]
+    }
+
+    /// The middles of its estimates, in seconds.
+    pub fn middles(&self) -> &[f64] {
+        &self.lent.estimates.middles[..self.answer.estimates as usize]
     }
 
     /// The ends that are read on its card, in milliseconds.
@@ -94,19 +106,23 @@ impl Compared for Left {
             && one.segments.same(&another.segments)
             && self.card.same(&other.card)
             && self.inside == other.inside
+            && self.windows_add_up == other.windows_add_up
             && self.other == other.other
     }
 
     fn shown(&self) -> String {
         let Buffers { frames, work, estimates, segments } = &self.lent;
         let (middles, shapeless) = (estimates.middles.shown(), estimates.shapeless.shown());
-        let lists = [frames.energies.shown(), work.shown(), middles, shapeless, segments.ends.shown()];
+        let (ends, counts) = (segments.ends.shown(), segments.counts.shown());
+        let lists = [frames.energies.shown(), work.shown(), middles, shapeless, ends, counts];
         let stayed = if self.stayed { "" } else { ", samples or sheet changed" };
         let inside = if self.inside { "" } else { ", an end after the audio" };
+        let add_up = if self.windows_add_up { "" } else { ", not as many windows as estimates" };
         let (answer, lists, card) = (self.answer.shown(), lists.join("; "), self.card.shown());
         let other = both_engines::shown(self.other.as_ref());
         format!(
-            "{answer}{stayed}; energies, work, middles, shapeless, ends: {lists}; card: {card}{inside}{other}"
+            "{answer}{stayed}{add_up}; energies, work, middles, shapeless, ends, counts: {lists}; \
+             card: {card}{inside}{other}"
         )
     }
 }
@@ -120,10 +136,14 @@ fn marked_bytes(length: usize) -> Vec<u8> {
     (0..length).map(|place| 100 + (place % 101) as u8).collect()
 }
 
+fn marked_counts(length: usize) -> Vec<u32> {
+    (0..length).map(|place| 0xa000_0000 + place as u32).collect()
+}
+
 /// What is lent, before the call.
 pub fn untouched(asked: &Asked) -> Buffers {
     let [centres, values, energies] = asked.call.room;
-    let [middles, numbers, certainties, shapeless, starts, ends, keys, confidences] = asked.rows;
+    let [middles, numbers, certainties, shapeless, starts, ends, keys, confidences, counts] = asked.rows;
     let same = |x: f32| x;
     Buffers {
         frames: FrameRows {
@@ -143,6 +163,7 @@ pub fn untouched(asked: &Asked) -> Buffers {
             ends: marked(ends, f64::from),
             keys: marked_bytes(keys),
             confidences: marked(confidences, same),
+            counts: marked_counts(counts),
         },
     }
 }
@@ -159,7 +180,9 @@ fn left_by(asked: &Asked, settings: Settings) -> Left {
     let answer = analyse(settings, &asked.call.sheet, &asked.call.samples, &mut lent);
     let left = Left::new(answer, lent, card_rounds::ours);
     let inside = left.ends().iter().all(|&end| asked.length().reaches(end.into()));
-    Left { stayed: asked.imprint() == before, inside, ..left }
+    let (segments, estimates) = (left.answer.segments as usize, left.answer.estimates);
+    let windows_add_up = windows_in_all(&left.lent.segments, segments) == estimates;
+    Left { stayed: asked.imprint() == before, inside, windows_add_up, ..left }
 }
 
 /// An answer without a key: a refusal, or the empty analysis.

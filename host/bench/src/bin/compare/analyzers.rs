@@ -1,12 +1,13 @@
-//! An analyzer that is used again, beside new ones; its frames alone, beside those of an analysis; its estimates,
-//! beside the rows of a call; each by the other engine; and the settings that it takes, beside the request's words.
+//! An analyzer that is used again, beside new ones; its frames alone, beside those of an analysis; its estimates and
+//! the windows behind its segments, beside the rows of a call; each by the other engine; and the settings that it
+//! takes, beside the request's words.
 use crate::analysis_calls::refusal_of;
 use crate::frame_calls::settings;
 use crate::groups::{Groups, compared_as_shown};
 use bench::inputs::dice::Dice;
 use bench::inputs::engines::{ENGINES, NO_ENGINES, by_other};
 use bench::inputs::tracks::{KINDS, Maker, put_unheard_click};
-use ulyptesh::calls::{Buffers, EstimateRows, Sheet, analyse};
+use ulyptesh::calls::{AnalyseResult, Buffers, EstimateRows, Sheet, analyse};
 use ulyptesh::{Analysis, Analyzer, Estimate, LoudFrame, Refusal, Settings};
 
 /// Streams of the seed from here on.
@@ -121,6 +122,7 @@ fn compare_analyzers(groups: &mut Groups) {
     let frames = |nth: usize| frames[nth].clone();
     groups.group("an analyzer's frames alone", 0..TURNS, frames, |nth| left_anew(seed, nth));
     compare_estimates(groups);
+    compare_windows(groups);
 }
 
 /// The estimates, and how many an analysis counts that are without shape.
@@ -134,10 +136,32 @@ fn compare_estimates(groups: &mut Groups) {
     groups.group("estimates without shape, counted", 0..TURNS, |nth| shapeless_estimates(seed, nth), counted);
 }
 
-fn shapeless_estimates(seed: u64, nth: usize) -> usize {
+/// The windows behind each segment, and those behind all of them.
+fn compare_windows(groups: &mut Groups) {
+    let seed = groups.seed;
+    let (windows, left) = (|nth| windows(seed, nth), |nth| windows_left(seed, nth));
+    let several = (0..TURNS).filter(|&nth| left(nth).len() > 1).count();
+    assert!((1..TURNS).contains(&several), "some tracks have several segments, and some have not");
+    groups.group("windows behind an analyzer's segments", 0..TURNS, windows, left);
+    let in_all = |nth| windows(nth).iter().sum::<u32>() as usize;
+    let estimates = |nth| analysed_windows(seed, nth).map_or(0, |told| told.estimate_count);
+    groups.group("windows behind all of an analyzer's segments", 0..TURNS, in_all, estimates);
+}
+
+/// A track with windows, or none where it is refused.
+fn analysed_windows(seed: u64, nth: usize) -> Option<Analysis> {
     let (settings, samples) = of_windows(seed, nth);
-    let told = Analyzer::new(settings).expect("settings that are taken").analyse(&samples);
-    told.map_or(0, |told| told.shapeless_estimate_count)
+    Analyzer::new(settings).expect("settings that are taken").analyse(&samples).ok()
+}
+
+fn shapeless_estimates(seed: u64, nth: usize) -> usize {
+    analysed_windows(seed, nth).map_or(0, |told| told.shapeless_estimate_count)
+}
+
+/// How many windows stand behind each segment.
+fn windows(seed: u64, nth: usize) -> Vec<u32> {
+    let segments = analysed_windows(seed, nth).map_or(vec![], |told| told.segments);
+    segments.iter().map(|segment| segment.windows).collect()
 }
 
 /// The estimates that an analyzer has of a track, or none where it is refused.
@@ -149,24 +173,35 @@ fn estimates(seed: u64, nth: usize) -> Vec<Estimated> {
     analyzer.estimates().map(estimated).collect()
 }
 
-/// Those that the call leaves in its rows.
-fn estimates_left(seed: u64, nth: usize) -> Vec<Estimated> {
+/// What the call answers, and what it leaves in its rows.
+fn left(seed: u64, nth: usize) -> (AnalyseResult, Buffers) {
     let (settings, samples) = by_the_other(of_windows(seed, nth));
     let mut lent = Buffers::for_track(&settings, samples.len());
-    let told = analyse(settings, &Sheet::for_call(&settings), &samples, &mut lent);
+    (analyse(settings, &Sheet::for_call(&settings), &samples, &mut lent), lent)
+}
+
+fn windows_left(seed: u64, nth: usize) -> Vec<u32> {
+    let (told, lent) = left(seed, nth);
+    lent.segments.counts[..told.segments as usize].to_vec()
+}
+
+fn estimates_left(seed: u64, nth: usize) -> Vec<Estimated> {
+    let (told, lent) = left(seed, nth);
     let EstimateRows { middles, numbers, certainties, shapeless } = lent.estimates;
     let told_apart = certainties.into_iter().zip(shapeless.into_iter().map(|told| told == 1));
     let rows = middles.into_iter().zip(numbers).zip(told_apart);
     rows.take(told.estimates as usize).collect()
 }
 
-/// Ten seconds or so with a window every half second; every other track begins with a click that no note hears, and
-/// silence for a window.
+/// Ten seconds or so with a window every half second, of which each may start a segment; some segments stay short, and
+/// every other track begins with a click that no note hears, and silence for a window.
 fn of_windows(seed: u64, nth: usize) -> (Settings, Vec<f32>) {
     let mut dice = Dice::new(seed, STREAM + CHECKED as u64 + nth as u64);
     let settings = settings(RATES[0], (48, 95), 1_024, 512).with(|settings| {
         settings.local_window_seconds = 1.0;
         settings.local_hop_seconds = 0.5;
+        settings.segment_confidence_threshold = 0.0;
+        settings.minimum_segment_seconds = [0.0, 1.2, 12.0][nth % 3];
         settings.engine = ENGINES[nth / 2 % 2];
     });
     let (kind, length) = (&KINDS[nth % KINDS.len()], 60_000 + dice.below(40_000));

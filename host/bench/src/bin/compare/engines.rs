@@ -32,10 +32,11 @@ fn bytes(lent: &Buffers) -> Vec<u8> {
     let times = [&frames.centres, &estimates.middles, &segments.starts, &segments.ends];
     let values = [&frames.energies, work, &estimates.certainties, &segments.confidences];
     let numbers = [&estimates.numbers, &estimates.shapeless, &segments.keys];
+    let counts = segments.counts.iter().flat_map(|count| count.to_le_bytes());
     let values = frames.values.as_flattened().iter().chain(values.into_iter().flatten());
     let bytes = times.into_iter().flatten().flat_map(|x| x.to_bits().to_le_bytes());
     let bytes = bytes.chain(values.flat_map(|x| x.to_bits().to_le_bytes()));
-    bytes.chain(numbers.into_iter().flatten().copied()).collect()
+    bytes.chain(numbers.into_iter().flatten().copied()).chain(counts).collect()
 }
 
 fn left(asked: &Asked, engine: Engine) -> Left {

@@ -1,12 +1,11 @@
-//! Majority keys, and the segments of given estimates, beside the oracle's.
+//! Majority keys, and the segments of given estimates with the windows behind each, beside the oracle's.
 use crate::estimate_lists::{as_theirs, estimates, key_numbers};
 use crate::groups::{Groups, compared_as_shown};
+use crate::rows::windows_in_all;
 use crate::segment_lists::{put_joined, untouched_segments};
 use bench::inputs::dice::Dice;
-use bench::oracle::key_lime::expose::{
-    Estimate, key_from_index, key_number, majority_key, segments_of_estimates,
-};
-use bench::oracle::key_lime::{KeyConfig, KeySegment};
+use bench::oracle::key_lime::expose::{key_from_index, key_number, majority_key};
+use bench::oracle::windows_behind::{groups, segments_of};
 use bench::probe::segments::{Cutting, cut, majority};
 use ulyptesh::calls::{EstimateRows, SegmentRows};
 
@@ -30,7 +29,7 @@ const ENDINGS: [f64; 6] = [0.0, 0.25, 6.0, 6.3, 100.0, -2.0];
 struct Lent {
     cutting: Cutting,
     estimates: EstimateRows,
-    room: [usize; 4],
+    room: [usize; 5],
 }
 
 compared_as_shown!(Lent);
@@ -61,30 +60,14 @@ fn ours(lent: Lent) -> (usize, SegmentRows) {
     (cut(lent.cutting, &lent.estimates, &mut rows), rows)
 }
 
-/// The segments of estimates, with segments shorter than the minimum joined.
-pub fn their_segments(cutting: Cutting, minimum: f32, estimates: &[Estimate]) -> Vec<KeySegment> {
-    let config = KeyConfig {
-        segment_confidence_threshold: cutting.threshold,
-        minimum_segment_seconds: minimum,
-        ..KeyConfig::default()
-    };
-    let key = key_from_index(cutting.key.into());
-    segments_of_estimates(estimates, cutting.duration, key, cutting.confidence, config)
-}
-
-/// How many segments there are before any is joined: none is shorter than minus infinity.
-pub fn before_joining(cutting: Cutting, estimates: &[Estimate]) -> usize {
-    their_segments(cutting, f32::NEG_INFINITY, estimates).len()
-}
-
 fn theirs(lent: Lent) -> (usize, SegmentRows) {
     let mut rows = untouched_segments(lent.room);
     if lent.refused() {
         return (0, rows);
     }
-    let estimates = as_theirs(&lent.estimates);
-    let left = their_segments(lent.cutting, lent.cutting.minimum as f32, &estimates);
-    put_joined(&left, before_joining(lent.cutting, &estimates), &mut rows);
+    let (cutting, estimates) = (lent.cutting, as_theirs(&lent.estimates));
+    let left = segments_of(cutting, cutting.minimum as f32, &estimates);
+    put_joined(&groups(cutting, &estimates), cutting.minimum, &left, &mut rows);
     (left.len(), rows)
 }
 
@@ -93,7 +76,7 @@ fn lent(dice: &mut Dice) -> Lent {
     let estimates = estimates(dice, threshold);
     let duration = estimates.middles.last().unwrap_or(&0.0) + dice.one_of(&ENDINGS);
     let rows = estimates.middles.len().max(1);
-    let room = if dice.one_in(2) { [rows; 4] } else { [rows; 4].map(|rows| rows + dice.below(4)) };
+    let room = if dice.one_in(2) { [rows; 5] } else { [rows; 5].map(|rows| rows + dice.below(4)) };
     let (key, confidence) = (dice.key(), dice.unit());
     Lent {
         cutting: Cutting { threshold, minimum: minimum.into(), duration, key, confidence },
@@ -109,8 +92,8 @@ fn spoil(dice: &mut Dice, mut lent: Lent) -> Lent {
         0 => lent.estimates.middles.push(99.0),
         1 => lent.estimates.numbers.push(0),
         2 => drop(lent.estimates.certainties.pop()),
-        3 => lent.room[dice.below(4)] = rows - 1,
-        4 => lent.room[dice.below(4)] = dice.below(rows),
+        3 => lent.room[dice.below(5)] = rows - 1,
+        4 => lent.room[dice.below(5)] = dice.below(rows),
         _ => {
             let place = dice.below(rows);
             let number = dice.one_of(&[24, 25, 36, 128, 255]);
@@ -133,9 +116,15 @@ fn refused(dice: &mut Dice) -> Lent {
 pub fn compare(groups: &mut Groups) {
     let seed = groups.seed;
     let keys = lists(seed, STREAM, key_numbers).take(KEY_LISTS).chain([vec![]]);
-    let whole = lists(seed, STREAM + 1, lent).take(ESTIMATE_LISTS);
+    let whole = || lists(seed, STREAM + 1, lent).take(ESTIMATE_LISTS);
     let spoilt = lists(seed, STREAM + 2, refused).filter(Lent::refused).take(REFUSED);
     groups.group("majority keys", keys, |numbers| majority(&numbers), their_majority);
-    groups.group("segments of estimates", whole, ours, theirs);
+    groups.group("segments of estimates", whole(), ours, theirs);
     groups.group("segments of estimates, refused", spoilt, ours, theirs);
+    let in_all = |lent: Lent| {
+        let (segments, rows) = ours(lent);
+        windows_in_all(&rows, segments)
+    };
+    let estimates = |lent: Lent| lent.estimates.middles.len() as u64;
+    groups.group("segments of estimates, windows behind them in all", whole(), in_all, estimates);
 }

@@ -92,6 +92,7 @@ mod track_ends;
 mod track_length;
 #[cfg(oracle)]
 mod whole_tracks;
+mod window_counts;
 mod windows;
 
 use groups::Groups;
@@ -130,7 +131,7 @@ macro_rules! beside_oracle {
     };
 }
 
-const TOPICS: [Topic; 40] = [
+const TOPICS: [Topic; 41] = [
     alone!(numbers),
     alone!(orders),
     alone!(key_names),
@@ -160,6 +161,7 @@ const TOPICS: [Topic; 40] = [
     beside_oracle!(shapeless_tracks),
     beside_oracle!(short_tracks),
     beside_oracle!(whole_tracks),
+    alone!(window_counts),
     alone!(engines),
     alone!(allocations),
     alone!(analyzers),

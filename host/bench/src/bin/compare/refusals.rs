@@ -45,7 +45,7 @@ pub fn of_frames() -> impl Iterator<Item = frame_calls::Asked> {
 
 /// An analysis that passes.
 fn whole_analysis() -> Asked {
-    let whole = Asked { work: 7, rows: [1, 2, 1, 4, 1, 3, 1, 1], call: whole() };
+    let whole = Asked { work: 7, rows: [1, 2, 1, 4, 1, 3, 1, 1, 2], call: whole() };
     assert_eq!(whole.refusal(), None);
     whole
 }
@@ -57,7 +57,7 @@ pub fn of_analyses() -> Vec<Asked> {
         BREACHES.iter().map(|breach| -> Breaks { Box::new(|asked| (breach.breaks)(&mut asked.call)) });
     let hop: Breaks = Box::new(|asked| asked.call.settings.local_hop_seconds = 0.5f32.next_down());
     let work: Breaks = Box::new(|asked| asked.work = 6);
-    let rows = (0..8).map(|list| -> Breaks { Box::new(move |asked| asked.rows[list] = 0) });
+    let rows = (0..9).map(|list| -> Breaks { Box::new(move |asked| asked.rows[list] = 0) });
     let breaches: Vec<Breaks> = of_frames.chain([hop, work]).chain(rows).collect();
     let broken = pairs(breaches.len()).map(|(one, other)| {
         let mut asked = whole.clone();
@@ -91,7 +91,7 @@ pub fn of_rooms() -> Vec<Asked> {
         breaks(&mut asked);
         asked
     };
-    (0..12).flat_map(other_room).map(changed).chain([whole.clone()]).collect()
+    (0..13).flat_map(other_room).map(changed).chain([whole.clone()]).collect()
 }
 
 fn numbers() -> [f32; MOST_NUMBERS] {

@@ -33,9 +33,15 @@ impl Compared for SegmentRows {
             && self.ends.same(&other.ends)
             && self.keys == other.keys
             && self.confidences.same(&other.confidences)
+            && self.counts == other.counts
     }
 
     fn shown(&self) -> String {
         format!("{self:?}")
     }
+}
+
+/// How many windows stand behind the first segments in all.
+pub fn windows_in_all(rows: &SegmentRows, segments: usize) -> u64 {
+    rows.counts.iter().take(segments).map(|&windows| u64::from(windows)).sum()
 }

@@ -2,48 +2,60 @@
 use bench::inputs::dice::Dice;
 use bench::oracle::key_lime::KeySegment;
 use bench::oracle::key_lime::expose::{key_from_index, key_number};
+use bench::oracle::windows_behind::{Counted, joined};
 use ulyptesh::calls::SegmentRows;
 
-/// Start and end in seconds, key number, confidence.
+/// Start and end in seconds, key number, confidence, and how many windows stand behind it.
 #[derive(Debug, Clone, Copy, PartialEq)]
 pub struct Segment {
     pub start: f64,
     pub end: f64,
     pub key: u8,
     pub confidence: f32,
+    pub windows: u32,
 }
 
 /// What a row holds that nothing was written to; its number is a key's.
-const UNTOUCHED: Segment = Segment { start: -7.25, end: -8.25, key: 23, confidence: -9.25 };
+const UNTOUCHED: Segment =
+    Segment { start: -7.25, end: -8.25, key: 23, confidence: -9.25, windows: 0xa5a5_a5a5 };
 
 /// What a row holds that joining has emptied.
-const EMPTIED: Segment = Segment { start: 0.0, end: 0.0, key: 0, confidence: 0.0 };
+const EMPTIED: Segment = Segment { start: 0.0, end: 0.0, key: 0, confidence: 0.0, windows: 0 };
 
 impl From<&Segment> for KeySegment {
     fn from(segment: &Segment) -> Self {
-        let Segment { start, end, key, confidence } = *segment;
+        let Segment { start, end, key, confidence, .. } = *segment;
         Self { start_seconds: start, end_seconds: end, key: key_from_index(key.into()), confidence }
     }
 }
 
-impl From<&KeySegment> for Segment {
-    fn from(segment: &KeySegment) -> Self {
-        let KeySegment { start_seconds, end_seconds, key, confidence } = *segment;
-        Self { start: start_seconds, end: end_seconds, key: key_number(key), confidence }
+impl From<&Segment> for Counted {
+    fn from(segment: &Segment) -> Self {
+        Self { segment: segment.into(), windows: segment.windows }
     }
 }
 
-pub fn as_theirs(segments: &[Segment]) -> Vec<KeySegment> {
-    segments.iter().map(KeySegment::from).collect()
+impl From<&Counted> for Segment {
+    fn from(counted: &Counted) -> Self {
+        let KeySegment { start_seconds, end_seconds, key, confidence } = counted.segment;
+        let (start, end, windows) = (start_seconds, end_seconds, counted.windows);
+        Self { start, end, key: key_number(key), confidence, windows }
+    }
+}
+
+/// As the oracle has them, with the windows behind each or without.
+pub fn as_theirs<A: for<'a> From<&'a Segment>>(segments: &[Segment]) -> Vec<A> {
+    segments.iter().map(A::from).collect()
 }
 
 /// Rows that nothing was written to, so many of each list.
-pub fn untouched_segments(room: [usize; 4]) -> SegmentRows {
+pub fn untouched_segments(room: [usize; 5]) -> SegmentRows {
     SegmentRows {
         starts: vec![UNTOUCHED.start; room[0]],
         ends: vec![UNTOUCHED.end; room[1]],
         keys: vec![UNTOUCHED.key; room[2]],
         confidences: vec![UNTOUCHED.confidence; room[3]],
+        counts: vec![UNTOUCHED.windows; room[4]],
     }
 }
 
@@ -54,13 +66,14 @@ pub fn put_segments(segments: impl Iterator<Item = Segment>, rows: &mut SegmentR
         rows.ends[place] = segment.end;
         rows.keys[place] = segment.key;
         rows.confidences[place] = segment.confidence;
+        rows.counts[place] = segment.windows;
     }
 }
 
-/// Writes what joining has left of so many segments, the emptied rows behind it.
-pub fn put_joined(left: &[KeySegment], of: usize, rows: &mut SegmentRows) {
-    let emptied = std::iter::repeat(EMPTIED);
-    put_segments(left.iter().map(Segment::from).chain(emptied).take(of), rows);
+/// Writes what joining has left of these segments, which is what the oracle has left, the emptied rows behind it.
+pub fn put_joined(segments: &[Counted], minimum: f64, theirs: &[KeySegment], rows: &mut SegmentRows) {
+    let (left, emptied) = (joined(segments, minimum, theirs), std::iter::repeat(EMPTIED));
+    put_segments(left.iter().map(Segment::from).chain(emptied).take(segments.len()), rows);
 }
 
 fn confidence(dice: &mut Dice) -> f32 {
@@ -73,7 +86,7 @@ fn in_a_row(dice: &mut Dice, lengths_and_keys: &[(f64, u8)]) -> Vec<Segment> {
     let next = |&(length, key): &(f64, u8)| {
         let start = end;
         end += length;
-        Segment { start, end, key, confidence: confidence(dice) }
+        Segment { start, end, key, confidence: confidence(dice), windows: 0 }
     };
     lengths_and_keys.iter().map(next).collect()
 }
@@ -116,7 +129,7 @@ pub fn anything(dice: &mut Dice, count: usize) -> Vec<Segment> {
     let keys = dice.few_keys();
     let drawn = |_| {
         let (start, end) = (moment(dice), moment(dice));
-        Segment { start, end, key: dice.one_of(&keys), confidence: confidence(dice) }
+        Segment { start, end, key: dice.one_of(&keys), confidence: confidence(dice), windows: 0 }
     };
     (0..count).map(drawn).collect()
 }
@@ -128,7 +141,7 @@ pub fn instants(dice: &mut Dice, count: usize) -> Vec<Segment> {
     let (keys, few) = (dice.few_keys(), [dice.one_of(&ends), dice.one_of(&ends)]);
     let drawn = |_| {
         let (key, confidence) = (dice.one_of(&keys), confidence(dice));
-        Segment { start: 0.0, end: dice.one_of(&few), key, confidence }
+        Segment { start: 0.0, end: dice.one_of(&few), key, confidence, windows: 0 }
     };
     (0..count).map(drawn).collect()
 }

@@ -28,11 +28,11 @@ const MINIMA: [f32; 8] = [0.0, 0.5, 1.3, 2.0, 12.0, 12.0, 1e9, -1.0];
 
 const ODD_CENTRES: [f64; 6] = [f64::NAN, f64::INFINITY, f64::NEG_INFINITY, -0.0, -1.0, 1e300];
 
-/// A track, and the lengths of its rows: four lists for estimates, four for segments.
+/// A track, and the lengths of its rows: four lists for estimates, five for segments.
 #[derive(Debug, Clone)]
 pub struct Asked {
     pub track: Track,
-    pub room: [usize; 8],
+    pub room: [usize; 9],
 }
 
 /// Tracks from streams of the seed.
@@ -227,13 +227,13 @@ impl Tracks {
     pub fn with_room(&mut self, track: Track) -> Asked {
         let rows = rows_asked(&track);
         let more = if self.dice.one_in(4) { 4 } else { 1 };
-        Asked { track, room: [rows; 8].map(|rows| rows + self.dice.below(more)) }
+        Asked { track, room: [rows; 9].map(|rows| rows + self.dice.below(more)) }
     }
 
     /// One list has a row too few.
     pub fn without_room(&mut self, track: Track) -> Asked {
         let mut asked = self.with_room(track);
-        asked.room[self.dice.below(8)] = rows_asked(&asked.track) - 1;
+        asked.room[self.dice.below(9)] = rows_asked(&asked.track) - 1;
         asked
     }
 }

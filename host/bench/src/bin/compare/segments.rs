@@ -1,7 +1,8 @@
-//! From frames to segments, beside the oracle's `estimate_segments`: estimates, segments and the rows that stay.
+//! From frames to segments, beside the oracle's `estimate_segments`: estimates, segments with the windows behind each,
+//! and the rows that stay.
 use crate::estimate_lists::{put_estimates, untouched_estimates};
-use crate::estimates::before_joining;
 use crate::groups::{Compared, Groups, compared_exactly};
+use crate::rows::windows_in_all;
 use crate::segment_lists::{put_joined, untouched_segments};
 use crate::segment_tracks::{Asked, Tracks};
 use crate::windows::{duration, is_brief, rows_asked};
@@ -10,8 +11,9 @@ use bench::oracle::key_lime::expose::{
     Estimate, estimate_segments, estimated_chromas, estimates, key_from_index,
 };
 use bench::oracle::shapes::is_shapeless;
+use bench::oracle::windows_behind::{cutting_by, groups};
 use bench::oracle::{config, frames};
-use bench::probe::segments::{Cutting, NOT_RUN, ProbedSegments, Track, segments};
+use bench::probe::segments::{NOT_RUN, ProbedSegments, Track, segments};
 use ulyptesh::calls::{EstimateRows, SegmentRows};
 
 /// Streams of the seed from here on are the segments'.
@@ -40,9 +42,9 @@ impl Compared for Asked {
     }
 }
 
-fn untouched(room: [usize; 8]) -> (EstimateRows, SegmentRows) {
-    let [middles, numbers, certainties, shapeless, starts, ends, keys, confidences] = room;
-    let segments = untouched_segments([starts, ends, keys, confidences]);
+fn untouched(room: [usize; 9]) -> (EstimateRows, SegmentRows) {
+    let [middles, numbers, certainties, shapeless, starts, ends, keys, confidences, counts] = room;
+    let segments = untouched_segments([starts, ends, keys, confidences, counts]);
     (untouched_estimates([middles, numbers, certainties, shapeless]), segments)
 }
 
@@ -74,11 +76,10 @@ fn their_segments(track: &Track) -> Vec<KeySegment> {
     estimate_segments(&frames(track), duration(track), key, track.confidence, config)
 }
 
-/// How many segments there are before any is joined.
-pub fn their_groups(track: &Track, found: &[Estimate]) -> usize {
-    let threshold = track.settings.segment_confidence_threshold;
-    let Track { key, confidence, .. } = *track;
-    before_joining(Cutting { threshold, minimum: 0.0, duration: duration(track), key, confidence }, found)
+/// Writes the oracle's segments of these estimates, with the windows behind each, and what joining has emptied.
+pub fn put_segments_of(track: &Track, found: &[Estimate], left: &[KeySegment], rows: &mut SegmentRows) {
+    let cutting = cutting_by(&config(&track.settings), duration(track), track.key, track.confidence);
+    put_joined(&groups(cutting, found), cutting.minimum, left, rows);
 }
 
 fn answer(outcome: u32, estimates: usize, segments: usize) -> ProbedSegments {
@@ -95,7 +96,7 @@ fn theirs(asked: Asked) -> Left {
     let found = their_estimates(&track);
     put_estimates(&found, &their_shapeless(&track), &mut rows.0);
     let left = their_segments(&track);
-    put_joined(&left, their_groups(&track, &found), &mut rows.1);
+    put_segments_of(&track, &found, &left, &mut rows.1);
     (answer(0, found.len(), left.len()), rows)
 }
 
@@ -149,6 +150,21 @@ fn compare_shapeless(groups: &mut Groups, stream: u64, (name, count, wholly): (&
     groups.group(&format!("segments of frames, {name}"), inputs.into_iter(), ours, theirs);
 }
 
+/// Every fifth track of each kind: as many windows as estimates, and none where nothing is run.
+fn compare_totals(groups: &mut Groups) {
+    let seed = groups.seed;
+    let tracks = (STREAM..).step_by(STREAMS).zip(KINDS).flat_map(|(stream, (_, count, make))| {
+        let mut tracks = Tracks::new(seed, stream);
+        (0..count).map(move |_| make(&mut tracks)).step_by(5)
+    });
+    let in_all = |asked| {
+        let (answer, (_, rows)) = ours(asked);
+        windows_in_all(&rows, answer.segments)
+    };
+    let estimates = |asked| theirs(asked).0.estimates as u64;
+    groups.group("segments of frames, windows behind them in all", tracks, in_all, estimates);
+}
+
 pub fn compare(groups: &mut Groups) {
     let mut streams = (STREAM..).step_by(STREAMS);
     for (stream, (name, count, make)) in streams.by_ref().zip(KINDS) {
@@ -159,4 +175,5 @@ pub fn compare(groups: &mut Groups) {
     for (stream, kind) in streams.zip(SHAPELESS_KINDS) {
         compare_shapeless(groups, stream, kind);
     }
+    compare_totals(groups);
 }

@@ -120,7 +120,7 @@ fn change_room(dice: &mut Dice, asked: &mut Asked) {
         asked.lent_mut().for_each(|lent| *lent += dice.below(4));
     }
     if dice.one_in(12) {
-        let (list, none) = (dice.below(12), dice.one_in(3));
+        let (list, none) = (dice.below(13), dice.one_in(3));
         asked
             .lent_mut()
             .skip(list)

@@ -3,11 +3,10 @@ use crate::analysis_calls::Asked;
 use crate::analysis_left::{Left, keyless, refused, untouched};
 use crate::estimate_lists::put_estimates;
 use crate::frames::{Heard, heard, put_frames};
-use crate::segment_lists::put_joined;
-use crate::segments::{their_estimates, their_groups, their_shapeless};
+use crate::segments::{put_segments_of, their_estimates, their_shapeless};
 use bench::oracle::config;
 use bench::oracle::key_lime::KeyAnalysis;
-use bench::oracle::key_lime::expose::analysis_of_frames;
+use bench::oracle::key_lime::expose::{analysis_of_frames, key_number};
 use bench::oracle::number;
 use bench::oracle::shapes::is_shapeless;
 use bench::probe::segments::Track;
@@ -41,10 +40,13 @@ pub fn their_analysis(asked: &Asked) -> Option<KeyAnalysis> {
     (heard.broken.is_none() && !heard.frames.is_empty()).then(|| told(asked, &heard))
 }
 
-/// The track as its segments see it.
-fn track_of(asked: &Asked, heard: &Heard) -> Track {
+/// The track as its segments see it. Key and confidence count where there are no estimates: there is one segment then,
+/// so those of the answer are the whole track's.
+fn track_of(asked: &Asked, heard: &Heard, told: &KeyAnalysis) -> Track {
     let centres = heard.frames.iter().map(|frame| frame.center_seconds).collect();
-    Track { centres, values: heard.frames.iter().map(|frame| frame.values).collect(), ..asked.track() }
+    let values = heard.frames.iter().map(|frame| frame.values).collect();
+    let key = told.key.map_or(0, key_number);
+    Track { centres, values, key, confidence: told.confidence, ..asked.track() }
 }
 
 /// What the oracle answers and leaves behind the frames.
@@ -63,10 +65,10 @@ fn their_answer(asked: &Asked, lent: &mut Buffers) -> AnalyseResult {
     if told.key.is_none() {
         return keyless(0, 0, frames);
     }
-    let track = track_of(asked, &heard);
+    let track = track_of(asked, &heard, &told);
     let found = their_estimates(&track);
     put_estimates(&found, &their_shapeless(&track), &mut lent.estimates);
-    put_joined(&told.segments, their_groups(&track, &found), &mut lent.segments);
+    put_segments_of(&track, &found, &told.segments, &mut lent.segments);
     with_key(&told, frames, found.len())
 }
 

@@ -1,5 +1,5 @@
-//! What the tool prints, beside what its pages say: help, notations, keys alone, keys at several times, names, and
-//! where a chroma has no shape.
+//! What the tool prints, beside what its pages say: help, notations, keys alone, keys at several times, names, where a
+//! chroma has no shape, and how many windows stand behind a segment.
 use crate::card_reads::{ROW_O, ROW_P};
 use crate::groups::{Groups, compared_exactly};
 use crate::key_names::{CAMELOT, OPEN_KEY};
@@ -54,6 +54,17 @@ const SHAPES: [(&str, &[&str]); 7] = [
     ("key 1 0 0 0 1 0 0 1 0 0 0 0", &[]),
 ];
 
+/// Words, and what is said of the windows behind each segment. A track has a window every 6 s; the one that sounds
+/// once has two, of which one is silent.
+const WINDOWS: [(&str, &[&str]); 6] = [
+    ("analyse tone --rate 8000", &["0 windows"]),
+    ("analyse tone --rate 8000 --window 1 --local-hop 0.5", &["3 windows"]),
+    ("analyse clicks --rate 8000 --notes 60-71", &["2 windows"]),
+    ("analyse once --rate 8000", &["1 window"]),
+    ("analyse silent --rate 8000", &[]),
+    ("analyse tone --rate 8000 --key-only", &[]),
+];
+
 /// How a run ended and what it printed.
 #[derive(Debug, PartialEq)]
 struct Printed {
@@ -75,8 +86,16 @@ fn unheard() -> Vec<f32> {
     samples
 }
 
+/// A tone before silence; twenty seconds.
+fn once() -> Vec<f32> {
+    let mut samples = tone();
+    samples.resize(160_000, 0.0);
+    samples
+}
+
 fn filled() -> Folder {
     let folder = Folder::new("tool-forms");
+    folder.put_samples("once", &once());
     folder.put_samples("clicks", &clicks(160_000, 4_096));
     folder.put_samples("unheard", &unheard());
     folder.put_samples("tone", &tone());
@@ -120,6 +139,13 @@ fn said_of_shapes(folder: &Folder, words: &str) -> Vec<String> {
     let said = told.lines().filter(|line| line.contains("no shape"));
     let said = said.filter_map(|line| line.rsplit("; ").next()?.split(':').next());
     said.map(|said| said.trim().into()).collect()
+}
+
+/// What is said of the windows behind each segment, at the end of its line.
+fn said_of_windows(folder: &Folder, words: &str) -> Vec<String> {
+    let told = printed(folder, &words.split_whitespace().collect::<Vec<_>>()).text;
+    let segments = told.lines().filter(|line| line.contains(" s to "));
+    segments.filter_map(|line| line.rsplit(", ").next()).map(String::from).collect()
 }
 
 /// A command's own help, twice over, and the version.
@@ -174,6 +200,12 @@ pub fn compare(groups: &mut Groups) {
         0..SHAPES.len(),
         |nth| said_of_shapes(&folder, SHAPES[nth].0),
         |nth| SHAPES[nth].1.iter().map(|said| said.to_string()).collect(),
+    );
+    groups.group(
+        "windows behind segments in the tool's text",
+        0..WINDOWS.len(),
+        |nth| said_of_windows(&folder, WINDOWS[nth].0),
+        |nth| WINDOWS[nth].1.iter().map(|said| said.to_string()).collect(),
     );
     groups.group("the tool's help and version", [0u32].into_iter(), |_| help(&folder), |_| [true; 4]);
     groups.group("the tool on standard input", [0u32].into_iter(), |_| by_input(&folder), |_| [true; 2]);

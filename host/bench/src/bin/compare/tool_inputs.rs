@@ -17,7 +17,7 @@ const RATES: [u32; 2] = [44_100, 48_000];
 
 /// One in so many is long and changes its key, and comes by standard input; another one is silent.
 const LONG_EVERY: usize = 25;
-const SILENT: usize = 5;
+pub const SILENT: usize = 5;
 const LONG_SECONDS: usize = 48;
 
 /// Of as many one begins with a click that no note hears, and one is clicks that the notes of its octave hear alike.

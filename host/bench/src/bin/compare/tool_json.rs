@@ -141,16 +141,32 @@ fn seen(folder: &Folder, page: &str, run: Run) -> [usize; 3] {
     [objects.len(), follow, objects.iter().filter(nulls).count()]
 }
 
-/// What a run says of shapes: of the first track's chroma, and of how many of its windows.
-fn shapes(folder: &Folder, run: usize) -> [Option<Json>; 2] {
+/// The first object that a run prints.
+fn first_told(folder: &Folder, run: usize) -> Option<Json> {
     let words = RUNS[run].words;
     let ended = folder.run(&words.split_whitespace().collect::<Vec<_>>());
-    let told = objects(&text(&ended.stdout), words).into_iter().next();
+    objects(&text(&ended.stdout), words).into_iter().next()
+}
+
+/// What a run says of shapes: of the first track's chroma, and of how many of its windows.
+fn shapes(folder: &Folder, run: usize) -> [Option<Json>; 2] {
+    let told = first_told(folder, run);
     ["shapeless", "shapeless_estimates"].map(|name| told.as_ref().and_then(|told| told.field(name)).cloned())
 }
 
 /// Runs on one track each, whether its chroma has no shape, and how many of its windows have none.
 const SHAPES: [(usize, bool, &str); 4] = [(0, false, "0"), (1, false, "0"), (2, false, "0"), (4, true, "2")];
+
+/// What a run says of the windows behind each segment of the first track.
+fn windows(folder: &Folder, run: usize) -> Vec<Option<Json>> {
+    let told = first_told(folder, run);
+    let segments = told.as_ref().and_then(|told| told.field("segments")?.list()).unwrap_or_default();
+    segments.iter().map(|segment| segment.field("windows").cloned()).collect()
+}
+
+/// Runs on one track each, and the windows behind each segment. A window's middle comes every 6 s, and the demo's key
+/// changes at 57 s.
+const WINDOWS: [(usize, &[&str]); 4] = [(0, &["9", "3"]), (1, &["2"]), (2, &[]), (4, &["2"])];
 
 /// The page's own examples follow it too: whether those of tracks do, and those of cards.
 fn examples(page: &str) -> Vec<bool> {
@@ -172,6 +188,10 @@ pub fn compare(groups: &mut Groups) {
         [Some(Json::Truth(shapeless)), Some(Json::Number(windows.into()))]
     };
     groups.group("shapes in the tool's JSON", 0..SHAPES.len(), said, shapes);
+    let said = |nth: usize| windows(&folder, WINDOWS[nth].0);
+    let windows =
+        |nth: usize| WINDOWS[nth].1.iter().map(|&count| Some(Json::Number(count.into()))).collect::<Vec<_>>();
+    groups.group("windows behind segments in the tool's JSON", 0..WINDOWS.len(), said, windows);
     let examples = |_| examples(&page);
     groups.group("the examples of the page on JSON", [0u32].into_iter(), examples, |_| vec![true; 2]);
 }

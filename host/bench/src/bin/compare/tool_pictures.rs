@@ -1,7 +1,7 @@
-//! The tool's pictures, beside the crate's analysis: each segment's key and confidence, what the shades mean, a mark
-//! exactly where the key is another than the only segment's, and hatching exactly where windows have no shape.
+//! The tool's pictures, beside the crate's analysis: each segment's key, confidence and windows, what the shades mean,
+//! a mark exactly where the key is another than the only segment's, and hatching exactly where windows have no shape.
 use crate::groups::{Groups, compared_as_shown};
-use crate::tool_runs::{Folder, text};
+use crate::tool_runs::{Folder, text, windows_told};
 use bench::inputs::dice::Dice;
 use bench::inputs::tracks::{KINDS, Maker, kind};
 use std::ops::Range;
@@ -27,8 +27,8 @@ const NO_SHAPE: &str = "the chroma has no shape";
 /// What a picture shows.
 #[derive(Debug, PartialEq)]
 struct Picture {
-    /// Key and confidence of each segment, from the blocks' titles.
-    segments: Vec<(String, String)>,
+    /// Key, confidence and windows of each segment, from the blocks' titles.
+    segments: Vec<[String; 3]>,
     /// Whether the only segment is marked, and the line below the title says why.
     marked: [bool; 2],
     /// Whether the shades are told from 0 on.
@@ -55,7 +55,9 @@ fn drawn(folder: &Folder, samples: &[f32]) -> Picture {
     let titles = between(&picture, "<title>", "</title>").filter(|title| !title.starts_with(NO_SHAPE));
     let segments = titles.map(|title| {
         let (key, behind) = title.split_once(", ").unwrap_or_default();
-        (key.into(), behind.rsplit(", ").next().unwrap_or_default().into())
+        let mut last = behind.rsplit(", ");
+        let [windows, confidence] = [last.next(), last.next()].map(Option::unwrap_or_default);
+        [key, confidence, windows].map(String::from)
     });
     Picture {
         segments: segments.collect(),
@@ -67,7 +69,7 @@ fn drawn(folder: &Folder, samples: &[f32]) -> Picture {
 fn wanted(told: &Analysis) -> Picture {
     let segments = told.segments.iter().map(|segment| {
         let key = format!("{} ({})", segment.key, segment.key.camelot());
-        (key, format!("confidence {:.3}", segment.confidence))
+        [key, format!("confidence {:.3}", segment.confidence), windows_told(segment.windows)]
     });
     let lone = told.segments.len() == 1 && Some(told.segments[0].key) != told.key;
     Picture { segments: segments.collect(), marked: [lone; 2], legend: true }

@@ -183,3 +183,8 @@ impl Drop for Folder {
 pub fn text(bytes: &[u8]) -> String {
     String::from_utf8_lossy(bytes).into_owned()
 }
+
+/// So many windows as the tool tells them.
+pub fn windows_told(windows: u32) -> String {
+    if windows == 1 { "1 window".into() } else { format!("{windows} windows") }
+}

@@ -1,5 +1,5 @@
-//! The tool's analyses of generated tracks, by its program, beside the oracle's `analyze`: every field of the JSON,
-//! and the card that it writes.
+//! The tool's analyses of generated tracks, by its program, beside the oracle's `analyze`: every field of the JSON, the
+//! segments of the text, and the card that it writes.
 use crate::analyses::Told;
 use crate::analysis_left::Left;
 use crate::cards::packed;
@@ -7,20 +7,24 @@ use crate::groups::{Groups, compared_as_shown};
 use crate::json::Json;
 use crate::key_names::CAMELOT;
 use crate::their_analyses::theirs;
-use crate::tool_inputs::{CLICKS, Track, UNHEARD_CLICK, file_of, sheets, track};
-use crate::tool_runs::{Folder, text};
+use crate::tool_inputs::{CLICKS, SILENT, Track, UNHEARD_CLICK, file_of, sheets, track};
+use crate::tool_runs::{Folder, text, windows_told};
 use bench::oracle::key_lime::expose::key_number;
 use bench::oracle::key_lime::{KeyAnalysis, MusicalKey, analyze};
 use bench::oracle::{config, number};
+use std::process::Output;
 use ulyptesh::Refusal;
 
 const TRACKS: usize = 50;
 
+/// Those of which the text is read: two keys, a short one, no key, a click before silence, and clicks.
+const TOLD: [usize; 5] = [0, 1, SILENT, UNHEARD_CLICK, CLICKS];
+
 /// A key's name, number and Camelot code.
 type Named = (String, u8, String);
 
-/// Start, end, key and confidence.
-type Segment = (f64, f64, Named, f32);
+/// Start, end, key, confidence, and the windows behind it.
+type Segment = (f64, f64, Named, f32, u32);
 
 /// An object of the tool's array.
 #[derive(Debug, PartialEq)]
@@ -72,7 +76,8 @@ fn named_or_null(told: &Json, fields: [&str; 3]) -> Option<Option<Named>> {
 fn segment(told: &Json) -> Option<Segment> {
     let number = |name: &str| told.field(name)?.number();
     let key = named(told, "key", "key_number", "camelot")?;
-    Some((number("start")?, number("end")?, key, told.field("confidence")?.number()?))
+    let (confidence, windows) = (told.field("confidence")?.number()?, told.field("windows")?.number()?);
+    Some((number("start")?, number("end")?, key, confidence, windows))
 }
 
 fn object(told: &Json) -> Option<Object> {
@@ -101,17 +106,22 @@ fn objects(printed: &str) -> Option<Vec<Object>> {
     Json::read(printed)?.list()?.iter().map(object).collect()
 }
 
-fn ours(track: &Track, folder: &Folder) -> Answer {
-    let (file, card) = (file_of(track), format!("{}.card", track.nth));
-    let (samples, rate) = (&track.asked.call.samples, track.asked.call.settings.rate.to_string());
-    let mut words = vec!["analyse", &file, "--rate", &rate, "--json", "--card", &card];
-    words.extend(&track.words);
-    let ended = if file == "-" {
+/// What the tool does with the track, asked for in these words too.
+fn analysed(track: &Track, folder: &Folder, asked: &[&str]) -> Output {
+    let (file, samples) = (file_of(track), &track.asked.call.samples);
+    let rate = track.asked.call.settings.rate.to_string();
+    let words = [&["analyse", &file, "--rate", &rate], asked, &track.words].concat();
+    if file == "-" {
         folder.run_on(samples, &words)
     } else {
         folder.put_samples(&file, samples);
         folder.run(&words)
-    };
+    }
+}
+
+fn ours(track: &Track, folder: &Folder) -> Answer {
+    let card = format!("{}.card", track.nth);
+    let ended = analysed(track, folder, &["--json", "--card", &card]);
     let (printed, said) = (text(&ended.stdout), text(&ended.stderr));
     match (ended.status.code(), objects(&printed), folder.read(&card)) {
         (Some(0), Some(objects), card) if said.is_empty() => Answer::Analysed { objects, card },
@@ -143,10 +153,9 @@ fn their_card(told: &KeyAnalysis) -> Option<Vec<u8>> {
 
 fn their_object(track: &Track, told: &KeyAnalysis, counted: &Left) -> Object {
     let (samples, rate) = (&track.asked.call.samples, track.asked.call.settings.rate);
-    let segments = told
-        .segments
-        .iter()
-        .map(|part| (part.start_seconds, part.end_seconds, their_name(part.key), part.confidence));
+    let segments = told.segments.iter().zip(counted.windows()).map(|(part, &windows)| {
+        (part.start_seconds, part.end_seconds, their_name(part.key), part.confidence, windows)
+    });
     Object {
         version: 1,
         file: file_of(track),
@@ -183,6 +192,22 @@ fn their_answer(track: &Track) -> Answer {
     Answer::Analysed { objects: vec![object], card: their_card(&told) }
 }
 
+/// The lines of the tool's text that tell a segment.
+fn lines(track: &Track, folder: &Folder) -> Vec<String> {
+    let printed = text(&analysed(track, folder, &[]).stdout);
+    printed.lines().filter(|line| line.contains(" s to ")).map(String::from).collect()
+}
+
+fn their_line((start, end, (name, _, camelot), confidence, windows): Segment) -> String {
+    let windows = windows_told(windows);
+    format!("  {start:6.2} s to {end:6.2} s: {name} ({camelot}), confidence {confidence:.3}, {windows}")
+}
+
+fn their_lines(track: &Track) -> Vec<String> {
+    let Answer::Analysed { objects, .. } = their_answer(track) else { return vec![] };
+    objects.into_iter().flat_map(|told| told.segments).map(their_line).collect()
+}
+
 pub fn compare(groups: &mut Groups) {
     let (seed, folder) = (groups.seed, Folder::new("tool-tracks"));
     let sheets = sheets();
@@ -201,5 +226,12 @@ pub fn compare(groups: &mut Groups) {
         |nth| track(seed, nth, &sheets),
         |track| ours(track, &folder),
         their_answer,
+    );
+    groups.shared_group(
+        "segments in the tool's text of generated tracks",
+        TOLD.len(),
+        |nth| track(seed, TOLD[nth], &sheets),
+        |track| lines(track, &folder),
+        their_lines,
     );
 }

@@ -4,8 +4,8 @@
 //! joined windows of the constant-Q rows. A record: the settings, of which the engine is the last, the samples, the
 //! answer's nine whole numbers (refusal, position, key, DSP key, alternate, the counts of frames, estimates and
 //! segments, and 1 where the track's chroma has no shape), its values and its chroma, then all that is left in rows that
-//! were zero: frames and work numbers, estimates (middles, keys, confidences, and 1 for each without shape), segments. A
-//! number of 64 bits has its lower half first.
+//! were zero: frames and work numbers, estimates (middles, keys, confidences, and 1 for each without shape), segments
+//! (starts, ends, keys, confidences, and the windows behind each). A number of 64 bits has its lower half first.
 use crate::patterns::pattern;
 use crate::tracks::{Asked, FRAME_SIZE, NOTES, RATE, every_track};
 use bench::oracle::key_lime::expose::{
@@ -15,6 +15,7 @@ use bench::oracle::key_lime::expose::{
 use bench::oracle::key_lime::{ChromaFrame, KeyAnalysis, KeyConfig, KeySegment, analyze};
 use bench::oracle::number;
 use bench::oracle::shapes::is_shapeless;
+use bench::oracle::windows_behind::{cutting_by, groups, joined};
 use ulyptesh::calls::NO_KEY;
 
 /// The rows that each call is lent.
@@ -32,6 +33,7 @@ struct Outcome {
     estimates: Vec<Estimate>,
     shapeless: Vec<bool>,
     analysis: Option<KeyAnalysis>,
+    windows: Vec<u32>,
 }
 
 fn patterns(values: &[f32]) -> Vec<u32> {
@@ -105,15 +107,27 @@ fn position(asked: &Asked, nth: usize) -> usize {
     loud.nth(nth).expect("so many frames are loud")
 }
 
+fn duration(asked: &Asked) -> f64 {
+    asked.samples.len() as f64 / f64::from(asked.rate)
+}
+
 /// The estimates, and whether the chroma of each has no shape.
 fn found_estimates(asked: &Asked, frames: &[ChromaFrame]) -> (Vec<Estimate>, Vec<bool>) {
-    let c = asked.config;
-    let duration = asked.samples.len() as f64 / f64::from(asked.rate);
+    let (c, duration) = (asked.config, duration(asked));
     if duration < f64::from(c.local_window_seconds) + f64::from(c.local_hop_seconds) {
         return Default::default();
     }
     let chromas = estimated_chromas(frames, duration, c);
     (estimates(frames, duration, c), chromas.iter().map(is_shapeless).collect())
+}
+
+/// How many windows stand behind each segment of an analysis with a key, which is its one segment's where there are no
+/// estimates.
+fn windows_behind(asked: &Asked, analysis: &KeyAnalysis, estimates: &[Estimate]) -> Vec<u32> {
+    let key = analysis.key.map_or(0, key_number);
+    let cutting = cutting_by(&asked.config, duration(asked), key, analysis.confidence);
+    let counted = joined(&groups(cutting, estimates), cutting.minimum, &analysis.segments);
+    counted.iter().map(|counted| counted.windows).collect()
 }
 
 /// The request's checks, then the oracle's frames up to the first that is not finite, then its analysis.
@@ -134,7 +148,9 @@ fn outcome(asked: &Asked) -> Outcome {
     let analysis = analyze(&asked.samples, asked.rate, asked.config);
     let has_key = analysis.key.is_some();
     let (estimates, shapeless) = if has_key { found_estimates(asked, &frames) } else { Default::default() };
-    Outcome { frames, energies, estimates, shapeless, analysis: Some(analysis), ..Outcome::default() }
+    let windows = if has_key { windows_behind(asked, &analysis, &estimates) } else { vec![] };
+    let analysis = Some(analysis);
+    Outcome { frames, energies, estimates, shapeless, analysis, windows, ..Outcome::default() }
 }
 
 impl Outcome {
@@ -179,6 +195,7 @@ impl Outcome {
             column(segments, SEGMENTS, |s| halves(s.end_seconds)),
             column(segments, SEGMENTS, |s| [key_number(s.key).into()]),
             column(segments, SEGMENTS, |s| [pattern(&s.confidence)]),
+            column(&self.windows, SEGMENTS, |&windows| [windows]),
         ]
         .concat()
     }
@@ -190,10 +207,10 @@ fn record(asked: Asked) -> Vec<u32> {
     let [key, _, alternate] = outcome.keys();
     let counts = [outcome.frames.len(), outcome.estimates.len(), outcome.segments().len()];
     let shapeless = (outcome.is_shapeless(), outcome.shapeless.iter().filter(|&&told| told).count());
-    let (what, engine, refusal) = (asked.what, asked.engine.0, outcome.refusal);
+    let (what, engine, refusal, windows) = (asked.what, asked.engine.0, outcome.refusal, &outcome.windows);
     println!(
         "1 record: {what}: engine {engine}, refusal {refusal}, key {key}, alternate {alternate}, rows {counts:?}, \
-         shapeless {shapeless:?}"
+         shapeless {shapeless:?}, windows {windows:?}"
     );
     [settings(&asked), patterns(&asked.samples), outcome.answer(), outcome.rows()].concat()
 }

@@ -42,6 +42,7 @@ fn rows(count: usize) -> SegmentRows {
         ends: (1..=count).map(time).collect(),
         keys: numbers(count),
         confidences: vec![0.5; count],
+        counts: vec![1; count],
     }
 }
 
