@@ -53,7 +53,7 @@ DemandThree c o = o .answer .key < 24 → Kept c (o .answer) (segmentsLeft o)
 abbrev pub AnalysisKeeps : Type 0
 AnalysisKeeps = (c : Call) (l : Lent) → Typed (c .settings) → DemandThree c (analysed c l)
 
--- the segments' counts sum to the estimates that the answer counts: every window that told a key stands behind one segment (02 §7)
+-- the segments' counts of windows sum to the estimates that the answer counts (02 §7)
 abbrev pub WindowsCounted : AnalyseOutcome → Type 0
 WindowsCounted o = totalWindows (segmentsLeft o) ≡ o .answer .estimates
 

@@ -54,7 +54,9 @@ pub fn join_segments(earlier: Segment, later: Segment) -> Segment
     ensures { λ r. ⌜ r ≡ joined earlier later ⌝ }
 {
     let key = earlier.key;
-    let windows = earlier.windows + later.windows;
+    let kept = earlier.windows;
+    let added = later.windows;
+    let windows = kept + added;
     Segment {
         start: smaller(later.start, earlier.start),
         end: larger(later.end, earlier.end),

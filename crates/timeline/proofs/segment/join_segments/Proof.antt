@@ -19,7 +19,7 @@ larger-requires c κs = search needs
 returns : tie.Need-returns
 unfolding joined
 returns c =
-    let args = c .before .before .before .before .before .args in
+    let args = c .before .before .before .args in
     ap₂ (λ (x y : Float). segment x y (args .earlier .key) (args .earlier .confidence) (args .earlier .windows + args .later .windows)) (c .before .smaller .ensures) (c .larger .ensures)
 
 pub join-segments-spec : {M : Type 1} → statement M
