@@ -1,5 +1,6 @@
 -- Past the guard all keys are numbers and the counts fit.
 use borrow.Author.Needs.{needs}
+use mathlib.Core.Path.{refl}
 use Rattle.timeline.specs.inside.Segments.{segmentRows}
 use Rattle.probe_segments.proofs.Segmenting.{not-shortened, shorten-needs, shortened}
 use Rattle.probe_segments.proofs.segments_of_rows.probe_shorten.Statement.{statement}
@@ -12,19 +13,19 @@ can-shorten-requires : tie.Need-can-shorten-requires
 can-shorten-requires c κs = search needs
 
 same-length : tie.Need-same-length
-same-length c = search needs
+same-length c = refl
 
 same-length-2 : tie.Need-same-length-2
-same-length-2 c = search needs
+same-length-2 c = refl
 
 same-length-3 : tie.Need-same-length-3
-same-length-3 c = search needs
+same-length-3 c = refl
 
 same-length-4 : tie.Need-same-length-4
-same-length-4 c = search needs
+same-length-4 c = refl
 
 same-length-5 : tie.Need-same-length-5
-same-length-5 c = search needs
+same-length-5 c = refl
 
 returns : tie.Need-returns
 returns c =
@@ -40,19 +41,19 @@ shorten-segments-requires c κs =
     shorten-needs (args .least) (segmentRows (args .starts .now) (args .ends .now) (args .keys .now) (args .confidences .now) (args .counts .now)) (count .segment-room .ensures) (guard .before .can-shorten .ensures) (guard .if1 .left)
 
 same-length-6 : tie.Need-same-length-6
-same-length-6 c = search needs
+same-length-6 c = c .before .before .before .before .before .before .before .before .before .starts .given
 
 same-length-7 : tie.Need-same-length-7
-same-length-7 c = search needs
+same-length-7 c = c .before .before .before .before .before .before .before .ends .given
 
 same-length-8 : tie.Need-same-length-8
-same-length-8 c = search needs
+same-length-8 c = c .before .before .before .before .before .keys .given
 
 same-length-9 : tie.Need-same-length-9
-same-length-9 c = search needs
+same-length-9 c = c .before .before .before .confidences .given
 
 same-length-10 : tie.Need-same-length-10
-same-length-10 c = search needs
+same-length-10 c = c .before .counts .given
 
 returns-2 : tie.Need-returns-2
 returns-2 c =
