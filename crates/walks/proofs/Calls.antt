@@ -29,7 +29,7 @@ use Rattle.walks.proofs.Rows.{Task, Change, task}
 use Rattle.walks.proofs.Looks as Looks
 use Rattle.walks.proofs.Looks.{Look}
 use Rattle.walks.proofs.Values as Values
-use Rattle.walks.proofs.Values.{Value, Asked}
+use Rattle.walks.proofs.Values.{Value, Fulfilled}
 
 module _ {M : Type 1} {𝓤 : URA M} {H : Heap 𝓤} {A : Atoms 𝓤} {K : Type 0} {W : Given 𝓤 H A} {Γ : List (Item 𝓤)} {E : Env 𝓤 H} {C : Calls 𝓤 H} {Λ : Loops 𝓤 H} {q : Post 𝓤 H} {f : Name} {xs : List Operand} {d : Place} {rest : Body} where
   pub calls-task : K → FmC 𝓤 H (W .laws) C → {R : RattleType} (t : Task R) → Rows.Knows t 𝓤 H A (C f) → (val : t .result .type .Denot → Val) → ((r : t .result .type .Denot) → t .result .vals r ≡ val r ∷ [])
@@ -73,7 +73,7 @@ module _ {M : Type 1} {𝓤 : URA M} {H : Heap 𝓤} {A : Atoms 𝓤} {K : Type 
       let told : v ∷ [] ≡ val r ∷ [] = l .result .tells r (v ∷ []) is ∙ one r in
       subst (λ (u : Val). Seq K W (‵ (row R s ys b o) ∷ Γ) (lands C Λ E d u rest q)) (sym (ap only told)) (k r (subst (Is (l .result .type) r) told is) promised))
 
-  pub calls-value : K → FmC 𝓤 H (W .laws) C → (t : Value) → Values.Knows t 𝓤 H A (C f) → {i : Item 𝓤} (a : Denots (Values.kinds (t .params))) → Are (Values.kinds (t .params)) (Ises (Values.kinds (t .params))) a (Values.spelt t a) → Asked (t .asks) a
+  pub calls-value : K → FmC 𝓤 H (W .laws) C → (t : Value) → Values.Knows t 𝓤 H A (C f) → {i : Item 𝓤} (a : Denots (Values.kinds (t .params))) → Are (Values.kinds (t .params)) (Ises (Values.kinds (t .params))) a (Values.spelt t a) → Fulfilled (t .asks) a
       → (v : Val) → t .result .vals (t .is a) ≡ v ∷ [] → Opds K W (i ∷ Γ) E xs (flat (Values.kinds (t .params)) (Values.spelt t a)) → (Is (t .result .type) (t .is a) (v ∷ []) → Seq K W (i ∷ Γ) (lands C Λ E d v rest q))
       → Seq K W (i ∷ Γ) (runs C Λ E (seq (call f xs d) rest) q)
   calls-value t fm c met {i} a good asked v spells os k =

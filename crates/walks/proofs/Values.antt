@@ -1,6 +1,6 @@
 -- A function on plain data by value, with a `requires` that states a fact or with none, as a caller's walk uses it.
---     Asks             what it asks of its parameters: naught, or that a fact holds.        Asked      that this holds
---     clause           the `requires` that Rattle makes of it.        clause-had, clause-told      it is had where that holds, and tells it
+--     Condition        what it asks of its parameters: naught, or that a fact holds.        Fulfilled      that this holds
+--     conditionClause  the `requires` that Rattle makes of it.        condition-had, condition-told      it is had where that holds, and tells it
 --     Value            the parameters, the result, what is asked, and what the result is
 --     lifts            a run that does it meets the contract
 --     gives            a run that meets the contract returns that, and what the caller has, P, is as it was
@@ -37,31 +37,31 @@ slots = Plains.slots 0
 abbrev pub kinds : List Plain → List RattleType
 kinds = Plains.kinds 0 tt
 
-pub data Asks (D : Type 0) : Type 1 where
-  naught : Asks D
-  that : (D → Type 0) → Asks D
+pub data Condition (D : Type 0) : Type 1 where
+  naught : Condition D
+  that : (D → Type 0) → Condition D
 
-abbrev pub Asked : {D : Type 0} → Asks D → D → Type 0
-Asked naught a = Unit {0}
-Asked (that φ) a = φ a
+abbrev pub Fulfilled : {D : Type 0} → Condition D → D → Type 0
+Fulfilled naught a = Unit {0}
+Fulfilled (that φ) a = φ a
 
 module _ {M : Type 1} (𝓤 : URA M) where
-  abbrev pub clause : {D : Type 0} → Asks D → D → SProp 𝓤
-  clause naught a = emp 𝓤
-  clause (that φ) a = fact 𝓤 (φ a)
+  abbrev pub conditionClause : {D : Type 0} → Condition D → D → SProp 𝓤
+  conditionClause naught a = emp 𝓤
+  conditionClause (that φ) a = fact 𝓤 (φ a)
 
-  clause-had : {D : Type 0} (q : Asks D) (a : D) → Asked q a → ent 𝓤 (emp 𝓤) (clause q a)
-  clause-had naught a asked = id⊢ 𝓤 _
-  clause-had (that φ) a asked = factI 𝓤 (φ a) (emp 𝓤) asked
+  condition-had : {D : Type 0} (q : Condition D) (a : D) → Fulfilled q a → ent 𝓤 (emp 𝓤) (conditionClause q a)
+  condition-had naught a asked = id⊢ 𝓤 _
+  condition-had (that φ) a asked = factI 𝓤 (φ a) (emp 𝓤) asked
 
-  clause-told : {D : Type 0} (q : Asks D) (a : D) (P : SProp 𝓤) {Q : SProp 𝓤} → (Asked q a → ent 𝓤 P Q) → ent 𝓤 (sep 𝓤 P (clause q a)) Q
-  clause-told naught a P h = via 𝓤 P (fst∗ 𝓤 P (emp 𝓤)) (h tt)
-  clause-told (that φ) a P h = needs 𝓤 (φ a) P h
+  condition-told : {D : Type 0} (q : Condition D) (a : D) (P : SProp 𝓤) {Q : SProp 𝓤} → (Fulfilled q a → ent 𝓤 P Q) → ent 𝓤 (sep 𝓤 P (conditionClause q a)) Q
+  condition-told naught a P h = via 𝓤 P (fst∗ 𝓤 P (emp 𝓤)) (h tt)
+  condition-told (that φ) a P h = needs 𝓤 (φ a) P h
 
 pub record Value : Type 2 where
   pub params : List Plain
   pub result : Plain
-  pub asks : Asks (Denots (kinds params))
+  pub asks : Condition (Denots (kinds params))
   pub is : Denots (kinds params) → result .type .Denot
 
 module _ (t : Value) where
@@ -76,13 +76,13 @@ module _ (t : Value) where
 
   module _ {M : Type 1} (𝓤 : URA M) (H : Heap 𝓤) (A : Atoms 𝓤) where
     abbrev pub clauses : Clauses 𝓤 ended
-    clauses κs a = record { ghost = Unit {0}; requires = λ _. clause 𝓤 (t .asks) a; ensures = λ _ r e. fact 𝓤 (r ≡ t .is a) }
+    clauses κs a = record { ghost = Unit {0}; requires = λ _. conditionClause 𝓤 (t .asks) a; ensures = λ _ r e. fact 𝓤 (r ≡ t .is a) }
 
     -- what a caller's walk asks of the entry of a table that stands for the function
     abbrev pub Knows : Fun 𝓤 → Type 1
     Knows run = Meets 𝓤 H A (ended .signature) run (closing 𝓤 H A ended clauses)
 
-    module _ (W : Given 𝓤 H A) (run : Fun 𝓤) (fm : FmF 𝓤 run) (met : Meets 𝓤 H A (ended .signature) run (closing 𝓤 H A ended clauses)) (a : Denots (kinds (t .params))) (good : Are (kinds (t .params)) (Ises (kinds (t .params))) a (spelt a)) (asked : Asked (t .asks) a) (P : SProp 𝓤) where
+    module _ (W : Given 𝓤 H A) (run : Fun 𝓤) (fm : FmF 𝓤 run) (met : Meets 𝓤 H A (ended .signature) run (closing 𝓤 H A ended clauses)) (a : Denots (kinds (t .params))) (good : Are (kinds (t .params)) (Ises (kinds (t .params))) a (spelt a)) (asked : Fulfilled (t .asks) a) (P : SProp 𝓤) where
       abbrev y : tripleOf 𝓤 H A (ended .signature) (closing 𝓤 H A ended clauses) .Ghost
       y = ((tt, tt, tt, a, spelt a), tt)
 
@@ -90,7 +90,7 @@ module _ (t : Value) where
       Gives v = H .⇛ (guard 𝓤 (Is (t .result .type) (t .is a) (v ∷ [])) P)
 
       goes : ent 𝓤 P (sep 𝓤 (tripleOf 𝓤 H A (ended .signature) (closing 𝓤 H A ended clauses) .pre y) P)
-      goes = qed W (raw P ∷ []) ∵ use0 W (raw (clause 𝓤 (t .asks) a)) (clause-had 𝓤 (t .asks) a asked) $ use0 W (‵ (owns (kinds (t .params)) a (spelt a))) (owns-make 𝓤 H A (kinds (t .params)) (Ises (kinds (t .params))) (Plains.make 𝓤 H A W 0 tt (t .params)) a (spelt a) good) $ use0 W (raw (emp 𝓤)) (id⊢ 𝓤 _) $
+      goes = qed W (raw P ∷ []) ∵ use0 W (raw (conditionClause 𝓤 (t .asks) a)) (condition-had 𝓤 (t .asks) a asked) $ use0 W (‵ (owns (kinds (t .params)) a (spelt a))) (owns-make 𝓤 H A (kinds (t .params)) (Ises (kinds (t .params))) (Plains.make 𝓤 H A W 0 tt (t .params)) a (spelt a) good) $ use0 W (raw (emp 𝓤)) (id⊢ 𝓤 _) $
           join ! $ move ! (0 ∷ 1 ∷ []) $ join ! $ done !
 
       back : (v : Val) → ent 𝓤 (sep 𝓤 (tripleOf 𝓤 H A (ended .signature) (closing 𝓤 H A ended clauses) .post y v) P) (Gives v)
@@ -108,7 +108,7 @@ module _ (t : Value) where
     Returned a v = H .⇛ (guard 𝓤 (Is (t .result .type) (t .is a) (v ∷ [])) (emp 𝓤))
 
     abbrev pub Does : Fun 𝓤 → Type 1
-    Does run = (a : Denots (kinds (t .params))) → Are (kinds (t .params)) (Ises (kinds (t .params))) a (spelt a) → Asked (t .asks) a → ent 𝓤 (emp 𝓤) (run (flat (kinds (t .params)) (spelt a)) (Returned a))
+    Does run = (a : Denots (kinds (t .params))) → Are (kinds (t .params)) (Ises (kinds (t .params))) a (spelt a) → Fulfilled (t .asks) a → ent 𝓤 (emp 𝓤) (run (flat (kinds (t .params)) (spelt a)) (Returned a))
 
     module _ (W : Given 𝓤 H A) where
       -- how a walk ends
@@ -135,7 +135,7 @@ module _ (t : Value) where
 
         pub lifts : Does run → Meets 𝓤 H A (ended .signature) run (closing 𝓤 H A ended clauses)
         lifts does = walk-meets 𝓤 H A ended stayed W (Plains.go 𝓤 H A W 0 (t .params)) clauses run (λ vs. fm→mono 𝓤 (run vs) (fm vs))
-            (walked 𝓤 H A ended stayed clauses run (λ κs. Plains.spells 0 tt (t .params)) (λ κs. Plains.tell 0 tt (t .params)) (λ κs qs bounds a g are. clause-told 𝓤 (t .asks) a _ (λ asked.
+            (walked 𝓤 H A ended stayed clauses run (λ κs. Plains.spells 0 tt (t .params)) (λ κs. Plains.tell 0 tt (t .params)) (λ κs qs bounds a g are. condition-told 𝓤 (t .asks) a _ (λ asked.
             via 𝓤 _ (monoL 𝓤 (sem 𝓤 H A (owns (kinds (t .params)) a (spelt a))) (does a are asked)) (fm (flat (kinds (t .params)) (spelt a)) (Returned a) (Post a) (sem 𝓤 H A (owns (kinds (t .params)) a (spelt a))) (closes a)))))
 
   -- a walk of the MIR that does it proves the function
