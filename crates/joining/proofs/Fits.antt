@@ -10,7 +10,6 @@ use Rattle.timeline.proofs.Counts.{total-append}
 use Rattle.joining.specs.Threes.{windowsOfThree}
 
 pub first-fit : (n : ℕ) (first second third : Segment) → windowsOfThree first second third < 2 ^ 32 → totalWindows (take n (first ∷ second ∷ third ∷ [])) < 2 ^ 32
-unfolding totalWindows
 first-fit n first second third fits =
     let all : List Segment = first ∷ second ∷ third ∷ [] in
     let apart = total-append (take n all) (drop n all) in

@@ -1,8 +1,9 @@
 -- Three records, shortened. Definitions only.
-use Prim.Native.Nat.{ℕ, _+_, min}
+use Prim.Native.Nat.{ℕ, min}
 use mathlib.Core.List.{[], _∷_}
 use lib.Ieee.{Float}
 use Rattle.timeline.specs.Segments.{segmentAt}
+use Rattle.timeline.specs.Counts.{totalWindows}
 use Rattle.timeline.specs.declared.segment.Segment.{Segment}
 use Rattle.records.specs.Records.{Left, shortenedIn}
 use Rattle.joining.specs.declared.Three.{Three}
@@ -13,7 +14,7 @@ three count first second third = record { count = count; first = first; second =
 
 -- how many windows three records rest on together
 abbrev pub windowsOfThree : Segment → Segment → Segment → ℕ
-windowsOfThree first second third = first .windows + second .windows + third .windows
+windowsOfThree first second third = totalWindows (first ∷ second ∷ third ∷ [])
 
 -- a slice of three records by its parts
 abbrev pub parts : Left → Three

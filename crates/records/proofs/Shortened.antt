@@ -16,7 +16,7 @@ use Rattle.shortening.specs.Shorten.{firstShort, keeper, joinAt, joinShort, uns
 use Rattle.shortening.proofs.Settles.{one-more, firstShort-within, keeper-within, joinAt-length, joinShort-length, shortened-join, to-join, few-settled, long-settled, shortened-few, left-long, stays}
 use Rattle.shortening.proofs.Counts.{counts-stay}
 use Rattle.records.specs.Records.{Left, left, shortenedIn}
-use Rattle.records.specs.inside.Steps.{windowsOfTwo, joinedRecords}
+use Rattle.records.specs.inside.Steps.{JoinableAt, joinedRecords}
 use Rattle.records.proofs.Gap.{records-join}
 use Rattle.records.proofs.Places.{among}
 
@@ -85,7 +85,7 @@ module _ {least : Float} {count : ℕ} {first : List Segment} {n : ℕ} {now : L
 
   module _ (p : ℕ) (there : p + 1 < n) where
     -- the counts of the two that join fit together where those of all first ones do
-    pub both-fit : totalWindows (take count first) < 2 ^ 32 → windowsOfTwo p now < 2 ^ 32
+    pub both-fit : totalWindows (take count first) < 2 ^ 32 → JoinableAt p now
     both-fit fits =
         let two = two-within at p (p + 1) (omega arith) (omega (arith, now-many)) in
         let earlier = ap (λ (r : Segment). r .windows) (among n p now (omega arith) now-room) in

@@ -20,10 +20,11 @@ use denote.Struct.Laws as LL
 use Rattle.timeline.specs.declared.segment.Segment.{Segment}
 use Rattle.timeline.specs.Segments.{emptied, short, joined}
 use Rattle.timeline.specs.Counts.{totalWindows}
+use Rattle.timeline.specs.inside.Segments.{Joinable}
 use Rattle.timeline.proofs.segment.Segment as T
 use Rattle.timeline.proofs.segment.Segment.Laws as T′
 use Rattle.shortening.specs.Shorten.{firstShort, keeper}
-use Rattle.records.specs.inside.Steps.{movedDown, copiedDown, windowsOfTwo, joinedAt, joinedRecords, placeAfter, keptPlace}
+use Rattle.records.specs.inside.Steps.{movedDown, copiedDown, JoinableAt, joinedAt, joinedRecords, placeAfter, keptPlace}
 use Rattle.records.specs.Records.{left, shortenedIn}
 use Rattle.walks.proofs.Plain.{Plain, number}
 use Rattle.walks.proofs.Rows.{Task, Change}
@@ -69,19 +70,19 @@ Copy-down = record { params = number ∷ []; asks = λ κs ys a. a .0 + 1 < leng
 
 -- ---- a join
 abbrev pub Join-segments : Value
-Join-segments = record { params = segment ∷ segment ∷ []; result = segment; asks = that (λ a. a .0 .windows + a .1 .0 .windows < 2 ^ 32); is = λ a. joined (a .0) (a .1 .0) }
+Join-segments = record { params = segment ∷ segment ∷ []; result = segment; asks = that (λ a. Joinable (a .0) (a .1 .0)); is = λ a. joined (a .0) (a .1 .0) }
 
 abbrev pub Emptied-segment : Value
 Emptied-segment = record { params = []; result = segment; asks = naught; is = λ _. emptied }
 
 abbrev pub Join-at : Change R
-Join-at = record { params = number ∷ []; asks = λ κs ys a. (a .0 + 1 < length ys) × (windowsOfTwo (a .0) ys < 2 ^ 32); becomes = λ κs ys a. joinedAt (a .0) ys }
+Join-at = record { params = number ∷ []; asks = λ κs ys a. (a .0 + 1 < length ys) × JoinableAt (a .0) ys; becomes = λ κs ys a. joinedAt (a .0) ys }
 
 abbrev pub Close-gap : Change R
 Close-gap = record { params = number ∷ number ∷ []; asks = λ κs ys a. (a .0 < a .1 .0) × (a .1 .0 ≤ length ys); becomes = λ κs ys a. movedDown (a .0) (a .1 .0) emptied ys }
 
 abbrev pub Join-records : Change R
-Join-records = record { params = number ∷ number ∷ []; asks = λ κs ys a. (a .0 + 1 < a .1 .0) × (a .1 .0 ≤ length ys) × (windowsOfTwo (a .0) ys < 2 ^ 32); becomes = λ κs ys a. joinedRecords (a .0) (a .1 .0) ys }
+Join-records = record { params = number ∷ number ∷ []; asks = λ κs ys a. (a .0 + 1 < a .1 .0) × (a .1 .0 ≤ length ys) × JoinableAt (a .0) ys; becomes = λ κs ys a. joinedRecords (a .0) (a .1 .0) ys }
 
 -- ---- which ones join
 abbrev pub Is-short : Value

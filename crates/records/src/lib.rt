@@ -7,7 +7,7 @@ ghost use Rattle.timeline.specs.Segments.{emptied, segmentAt};
 ghost use Rattle.timeline.specs.Counts.{totalWindows};
 ghost use Rattle.shortening.specs.Shorten.{firstShort, keeper};
 ghost use Rattle.records.specs.Records.{left, shortenedIn};
-ghost use Rattle.records.specs.inside.Steps.{movedDown, copiedDown, windowsOfTwo, joinedAt, joinedRecords, placeAfter, keptPlace};
+ghost use Rattle.records.specs.inside.Steps.{movedDown, copiedDown, JoinableAt, joinedAt, joinedRecords, placeAfter, keptPlace};
 use timeline::segment::Segment;
 use timeline::segment::emptied_segment;
 use timeline::segment::is_short;
@@ -56,7 +56,7 @@ pub fn close_gap(records: &mut [Segment], p: usize, count: usize)
 
 // Record p takes in the one behind it.
 pub fn join_at(records: &mut [Segment], p: usize)
-    requires { ⌜ (p + 1 < length (now records)) × (windowsOfTwo p (now records) < 2 ^ 32) ⌝ }
+    requires { ⌜ (p + 1 < length (now records)) × JoinableAt p (now records) ⌝ }
     ensures { λ _. ⌜ now (records .exit) ≡ joinedAt p (now (records .entry)) ⌝ }
 {
     let earlier = record_at(records, p);
@@ -67,7 +67,7 @@ pub fn join_at(records: &mut [Segment], p: usize)
 
 // Of the first `count` records, p and p + 1 become one.
 pub fn join_records(records: &mut [Segment], p: usize, count: usize)
-    requires { ⌜ (p + 1 < count) × (count ≤ length (now records)) × (windowsOfTwo p (now records) < 2 ^ 32) ⌝ }
+    requires { ⌜ (p + 1 < count) × (count ≤ length (now records)) × JoinableAt p (now records) ⌝ }
     ensures { λ _. ⌜ now (records .exit) ≡ joinedRecords p count (now (records .entry)) ⌝ }
 {
     join_at(records, p);

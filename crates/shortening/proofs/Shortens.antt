@@ -21,14 +21,14 @@ use Rattle.keys.proofs.Placed.{numbers-are-keys}
 use Rattle.timeline.specs.inside.Estimates.{Numbered}
 use Rattle.timeline.specs.Segments.{emptied, short, joined, segment, segmentAt, SegmentRows, segmentIn, segmentsIn, holdingSegments}
 use Rattle.timeline.specs.Counts.{totalWindows}
-use Rattle.timeline.specs.inside.Segments.{putSegment, Room, FilledRows, filledRows, secondsIn, shortIn}
+use Rattle.timeline.specs.inside.Segments.{Joinable, putSegment, Room, FilledRows, filledRows, secondsIn, shortIn}
 use Rattle.timeline.specs.declared.segment.Segment.{Segment}
 use Rattle.timeline.proofs.Segments.{segment-there, same-rows, seconds-there, short-there}
 use Rattle.timeline.proofs.Counts.{two-within}
 use Rattle.shortening.specs.Shorten.{firstShort, keeper, joinAt, joinShort, unsettled, shortenedOf, leftIn}
 use Rattle.shortening.specs.inside.Settled.{settled}
 use Rattle.shortening.specs.inside.Lengths.{prefersBack, joinsBack}
-use Rattle.shortening.specs.inside.Gap.{Joinable, joinedRows, takenIn, emptiedRows}
+use Rattle.shortening.specs.inside.Gap.{JoinableRows, joinedRows, takenIn, emptiedRows}
 use Rattle.shortening.proofs.Settles.{firstShort-within, firstShort-at, to-join, few-settled, long-settled, none-to-join, shortened-join, stays}
 use Rattle.shortening.proofs.Counts.{counts-stay}
 use Rattle.shortening.proofs.Apart.{Apart, apart-own, apart-start, apart-put, apart-kept, apart-rest, apart-end}
@@ -51,7 +51,7 @@ pub joined-is : (p : ℕ) (rows : SegmentRows) {earlier later s : Segment} → e
 joined-is p rows e l j = ap (λ (s : Segment). putSegment s p rows) (j ∙ (λ i. joined (e i) (l i)))
 
 -- the windows of two rows' segments
-pub joinable-is : (i j : ℕ) (rows : SegmentRows) {earlier later : Segment} → earlier ≡ segmentIn rows i → later ≡ segmentIn rows j → Joinable i j rows → earlier .windows + later .windows < 2 ^ 32
+pub joinable-is : (i j : ℕ) (rows : SegmentRows) {earlier later : Segment} → earlier ≡ segmentIn rows i → later ≡ segmentIn rows j → JoinableRows i j rows → Joinable earlier later
 joinable-is i j rows e l h = rw (e, l) h
 
 -- ---- whether the last one joins the one before it, one law to each answer
@@ -360,16 +360,16 @@ module _ {least : Float} {count : ℕ} {before now : SegmentRows} {done next : �
   more-room inside = room-of (next + 1) (omega (arith, inside, g .upto))
 
   -- the windows of two that are left are no more than those of all
-  two-few : (i j : ℕ) → i < j → j < length all → segmentAt all i .windows + segmentAt all j .windows < 2 ^ 32
+  two-few : (i j : ℕ) → i < j → j < length all → Joinable (segmentAt all i) (segmentAt all j)
   two-few i j less h = let two = two-within all i j less h in omega (arith, two, g .few)
 
-  pub back-few : {flag : Bool} → flag ≡ joinsBack least done next count (now .starts) (now .ends) → flag ≡ true → Joinable (last - 1) (last - 1 + 1) now
+  pub back-few : {flag : Bool} → flag ≡ joinsBack least done next count (now .starts) (now .ends) → flag ≡ true → JoinableRows (last - 1) (last - 1 + 1) now
   back-few f t =
       let two = back-two f t in
       let at : (i : ℕ) → i < done → segmentAt all i ≡ segmentIn now i = λ i h. at-kept i h ∙ sym (kept-row i h) in
       rw (sym (at (last - 1) (omega arith)), sym (at (last - 1 + 1) (omega arith))) (two-few (last - 1) (last - 1 + 1) (omega arith) (omega (arith, all-long)))
 
-  pub more-few : (next ≡ count → ⊥) → Joinable last next now
+  pub more-few : (next ≡ count → ⊥) → JoinableRows last next now
   more-few inside =
       let some = g .some in
       let upto = g .upto in

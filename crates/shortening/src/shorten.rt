@@ -10,7 +10,7 @@ ghost use Rattle.timeline.specs.Counts.{totalWindows};
 ghost use Rattle.timeline.specs.inside.Segments.{Room, filledRows};
 ghost use Rattle.shortening.specs.inside.Settled.{settled};
 ghost use Rattle.shortening.specs.inside.Lengths.{firstShortIn, joinsBack};
-ghost use Rattle.shortening.specs.inside.Gap.{Joinable, joinedRows, takenIn, emptiedRows};
+ghost use Rattle.shortening.specs.inside.Gap.{JoinableRows, joinedRows, takenIn, emptiedRows};
 use timeline::segment::emptied_segment;
 use timeline::segment::is_short;
 use timeline::segment::is_short_row;
@@ -73,7 +73,7 @@ fn join_rows(
     confidences: &mut [f32],
     counts: &mut [u32],
 )
-    requires { ⌜ Room (lentSegments starts ends keys confidences counts) (p + 2) × Joinable p (p + 1) (lentSegments starts ends keys confidences counts) ⌝ }
+    requires { ⌜ Room (lentSegments starts ends keys confidences counts) (p + 2) × JoinableRows p (p + 1) (lentSegments starts ends keys confidences counts) ⌝ }
     ensures { λ _. ⌜ lentSegments (starts .exit) (ends .exit) (keys .exit) (confidences .exit) (counts .exit) ≡ joinedRows p (lentSegments (starts .entry) (ends .entry) (keys .entry) (confidences .entry) (counts .entry)) ⌝ }
 {
     let next = p + 1;
@@ -101,7 +101,7 @@ fn take_in(
     confidences: &mut [f32],
     counts: &mut [u32],
 ) -> usize
-    requires { ⌜ (0 < done) × (done ≤ next) × Room (lentSegments starts ends keys confidences counts) (next + 1) × Joinable (done - 1) next (lentSegments starts ends keys confidences counts) ⌝ }
+    requires { ⌜ (0 < done) × (done ≤ next) × Room (lentSegments starts ends keys confidences counts) (next + 1) × JoinableRows (done - 1) next (lentSegments starts ends keys confidences counts) ⌝ }
     ensures { λ r. ⌜ filledRows r (lentSegments (starts .exit) (ends .exit) (keys .exit) (confidences .exit) (counts .exit)) ≡ takenIn least done next (lentSegments (starts .entry) (ends .entry) (keys .entry) (confidences .entry) (counts .entry)) ⌝ }
 {
     let last = done - 1;

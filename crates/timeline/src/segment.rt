@@ -1,9 +1,9 @@
 // A stretch of time with one key, and such segments in lent rows.
 ghost use mathlib.Core.Path.{_≡_};
 ghost use lib.ListN.{length};
-ghost use Prim.Native.Nat.{_+_, _^_, _<_};
+ghost use Prim.Native.Nat.{_<_};
 ghost use Rattle.timeline.specs.Segments.{emptied, seconds, short, joined, lentSegments, segmentIn, segmentRoom};
-ghost use Rattle.timeline.specs.inside.Segments.{putSegment, secondsIn, shortIn, lentStretches, stretchIn};
+ghost use Rattle.timeline.specs.inside.Segments.{Joinable, putSegment, secondsIn, shortIn, lentStretches, stretchIn};
 use crate::stored::stored_key;
 use keys::Key;
 use keys::numbers::key_number;
@@ -50,7 +50,7 @@ pub fn is_short(least: f64, segment: Segment) -> bool
 
 // Two neighbours as one, with the key and the confidence of the earlier one and the windows of both.
 pub fn join_segments(earlier: Segment, later: Segment) -> Segment
-    requires { ⌜ earlier .windows + later .windows < 2 ^ 32 ⌝ }
+    requires { ⌜ Joinable earlier later ⌝ }
     ensures { λ r. ⌜ r ≡ joined earlier later ⌝ }
 {
     let key = earlier.key;

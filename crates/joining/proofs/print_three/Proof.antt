@@ -1,6 +1,7 @@
 -- The windows of the three, added.
 use borrow.Author.Needs.{needs}
 use lib.Dec.{lit<}
+use Rattle.timeline.specs.Counts.{totalWindows}
 use Rattle.joining.proofs.print_three.Statement.{statement}
 use Rattle.joining.proofs.print_three.Tie as tie
 
@@ -14,6 +15,7 @@ part-requires-3 : tie.Need-part-requires-3
 part-requires-3 c κs = search needs
 
 print-row-requires : tie.Need-print-row-requires
+unfolding totalWindows
 print-row-requires c κs = rw (c .before .before .part .ensures, c .before .part2 .ensures, c .part3 .ensures) (lit< tt)
 
 returns : tie.Need-returns

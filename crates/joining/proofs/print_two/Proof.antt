@@ -1,6 +1,7 @@
 -- The windows of the two, added.
 use borrow.Author.Needs.{needs}
 use lib.Dec.{lit<}
+use Rattle.timeline.specs.Counts.{totalWindows}
 use Rattle.joining.proofs.print_two.Statement.{statement}
 use Rattle.joining.proofs.print_two.Tie as tie
 
@@ -14,6 +15,7 @@ emptied-segment-requires : tie.Need-emptied-segment-requires
 emptied-segment-requires c κs = search needs
 
 print-row-requires : tie.Need-print-row-requires
+unfolding totalWindows
 print-row-requires c κs = rw (c .before .before .part .ensures, c .before .part2 .ensures, c .emptied-segment .ensures) (lit< tt)
 
 returns : tie.Need-returns

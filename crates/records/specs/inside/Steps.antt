@@ -6,6 +6,7 @@ use lib.ListN.{set, take, drop}
 use lib.Dec.{ltb, eqb}
 use lib.Ieee.{le}
 use Rattle.timeline.specs.Segments.{emptied, seconds, joined, segmentAt}
+use Rattle.timeline.specs.inside.Segments.{Joinable}
 use Rattle.timeline.specs.declared.segment.Segment.{Segment}
 
 -- of the first `count` entries, p is taken out, those behind it follow, and x is the last of them instead
@@ -16,9 +17,9 @@ movedDown p count x xs = take p xs ++ (drop (p + 1) (take count xs) ++ (x ∷ dr
 abbrev pub copiedDown : ℕ → List Segment → List Segment
 copiedDown i records = set records i (segmentAt records (i + 1))
 
--- how many windows record p and the one behind it rest on
-abbrev pub windowsOfTwo : ℕ → List Segment → ℕ
-windowsOfTwo p records = segmentAt records p .windows + segmentAt records (p + 1) .windows
+-- record p and the one behind it can join
+abbrev pub JoinableAt : ℕ → List Segment → Type 0
+JoinableAt p records = Joinable (segmentAt records p) (segmentAt records (p + 1))
 
 -- record p is joined with the one behind it, which stays
 abbrev pub joinedAt : ℕ → List Segment → List Segment

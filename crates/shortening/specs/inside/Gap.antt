@@ -1,16 +1,16 @@
 -- Rows with a gap: the first `done` hold the segments looked at, and those from `next` up to the count are unread. No promise names it. Definitions only.
-use Prim.Native.Nat.{ℕ, _+_, _-_, _^_, _<_}
+use Prim.Native.Nat.{ℕ, _+_, _-_}
 use mathlib.Core.Bool.{cond}
 use mathlib.Core.List.{List, _++_}
 use lib.ListN.{take, drop, replicate}
 use lib.Ieee.{Float}
 use Rattle.keys.specs.Numbers.{keyNumber}
 use Rattle.timeline.specs.Segments.{emptied, short, joined, SegmentRows, segmentIn}
-use Rattle.timeline.specs.inside.Segments.{segmentRows, putSegment, FilledRows, filledRows}
+use Rattle.timeline.specs.inside.Segments.{Joinable, segmentRows, putSegment, FilledRows, filledRows}
 
--- the segments in two rows can join: the windows of both are a count of 32 bits
-abbrev pub Joinable : ℕ → ℕ → SegmentRows → Type 0
-Joinable i j r = segmentIn r i .windows + segmentIn r j .windows < 2 ^ 32
+-- the segments in two rows can join
+abbrev pub JoinableRows : ℕ → ℕ → SegmentRows → Type 0
+JoinableRows i j r = Joinable (segmentIn r i) (segmentIn r j)
 
 -- the segments in the rows p and p + 1 as one, in row p
 abbrev pub joinedRows : ℕ → SegmentRows → SegmentRows

@@ -1,5 +1,5 @@
 -- Segments put into lent rows, what is left in them, and what is read from some of their columns. No promise names it. Definitions only.
-use Prim.Native.Nat.{ℕ, _≤_}
+use Prim.Native.Nat.{ℕ, _+_, _^_, _<_, _≤_}
 use mathlib.Core.Bool.{Bool}
 use mathlib.Core.List.{List}
 use lib.ListN.{length, getD, set}
@@ -11,6 +11,10 @@ use Rattle.keys.specs.declared.Key.{Key}
 use Rattle.keys.specs.Numbers.{keyNumber, keyAt}
 use Rattle.timeline.specs.Segments.{segment, SegmentRows, holdingSegments}
 use Rattle.timeline.specs.declared.segment.Segment.{Segment}
+
+-- two segments can join: the windows of both are a count of 32 bits
+abbrev pub Joinable : Segment → Segment → Type 0
+Joinable earlier later = earlier .windows + later .windows < 2 ^ 32
 
 -- ---- put into rows
 -- rows of segments, from their slices
