@@ -38,7 +38,7 @@ extern "C" {
 /* The number of the interface; it grows when a struct, a parameter or a meaning changes, and ulyptesh_abi answers the
    library's own. A new call leaves it, so a program that loads the library at run time compares the two, and looks up a
    call that is newer by its name. */
-#define ULYPTESH_ABI 4
+#define ULYPTESH_ABI 5
 /* Numbers in a chroma, from C upward. */
 #define ULYPTESH_PITCH_CLASSES 12
 /* Keys, and so scores of a chroma. */
@@ -48,12 +48,18 @@ extern "C" {
 /* Bytes of the longest key name, "C# major"; a name has no zero byte behind it. */
 #define ULYPTESH_LONGEST_NAME 8
 /* The longest track. */
-#define ULYPTESH_LONGEST_TRACK_SECONDS 14400
-/* The most segments on a card. */
-#define ULYPTESH_MOST_CARD_SEGMENTS 1023
-/* Bytes of a card with so many segments; at most 4,994. */
-#define ULYPTESH_CARD_BYTES(segments) ((49 + 39 * (size_t)(segments) + 7) / 8)
-/* Segments of a card of so many bytes, 7 or more. */
+#define ULYPTESH_LONGEST_TRACK_SECONDS 86400
+/* The most segments on a card. A card has layout 1 where that holds it, with ends up to 14,400,000 ms, and else layout
+   2, with ends up to 86,400,000 ms; its first four bits say which. */
+#define ULYPTESH_MOST_CARD_SEGMENTS 4095
+/* The most segments on a card of layout 1. */
+#define ULYPTESH_LAYOUT_1_SEGMENTS 1023
+/* Bytes of a card with so many segments in each layout; at most 4,994 and 21,506. */
+#define ULYPTESH_LAYOUT_1_BYTES(segments) ((49 + 39 * (size_t)(segments) + 7) / 8)
+#define ULYPTESH_LAYOUT_2_BYTES(segments) ((51 + 42 * (size_t)(segments) + 7) / 8)
+/* Bytes that hold the card of so many segments in either layout. */
+#define ULYPTESH_CARD_BYTES(segments) ULYPTESH_LAYOUT_2_BYTES(segments)
+/* Rows that suffice for a card of so many bytes, 7 or more, in either layout. */
 #define ULYPTESH_CARD_SEGMENTS(bytes) ((8 * (size_t)(bytes) - 49) / 39)
 
 /* Why a call refuses. The first of 1, 2, 3, 13, 4, 5, 6, 7 and 8 that applies is answered, in this order, and the first
@@ -67,7 +73,7 @@ typedef enum UlypteshRefusal {
     ULYPTESH_SIZE_TOO_LARGE = 2,
     /* one of the five float settings is not finite */
     ULYPTESH_SETTING_NOT_FINITE = 3,
-    /* there are more samples than 14,400 times the rate */
+    /* there are more samples than 86,400 times the rate */
     ULYPTESH_TRACK_TOO_LONG = 4,
     /* analyse: the local hop is below half a second */
     ULYPTESH_LOCAL_HOP_TOO_SHORT = 5,
@@ -89,10 +95,12 @@ typedef enum UlypteshRefusal {
     ULYPTESH_WRONG_LENGTH = 18,
     /* read card: under 7 bytes or, where the layout is known, another length than the card's segment count gives */
     ULYPTESH_CARD_WRONG_LENGTH = 20,
-    /* read card: the layout is not 1 */
+    /* read card: the layout is neither 1 nor 2 */
     ULYPTESH_CARD_UNKNOWN_LAYOUT = 21,
     /* read card: a card rule is broken, or a bit that fills the last byte is set */
     ULYPTESH_CARD_BROKEN = 22,
+    /* read card: the layout is 2, and layout 1 would have held the card */
+    ULYPTESH_CARD_NEEDLESS_LAYOUT = 23,
     /* read card: fewer segment rows are lent than the card has segments */
     ULYPTESH_TOO_FEW_CARD_ROWS = 24
 } UlypteshRefusal;
@@ -193,7 +201,7 @@ UlypteshFramesResult *ulyptesh_frames(
     UlypteshFramesResult *answer, /* written whole */
     UlypteshSettings settings,
     UlypteshSheetHead head,
-    const float *samples, size_t sample_count, /* mono; at most 14,400 times the rate */
+    const float *samples, size_t sample_count, /* mono; at most 86,400 times the rate */
     const float *window, size_t window_count, /* frame size; 0 to 1: the window of a frame */
     const float *coefficients, size_t coefficient_count, /* Goertzel rows, at most a note each; -2 to 2 */
     const float *weights, size_t weight_count, /* as many; finite and above 0 */
@@ -253,13 +261,13 @@ UlypteshWritten ulyptesh_write_key_name(
 UlypteshWritten ulyptesh_write_card(
     uint32_t key, uint32_t dsp_key, uint32_t alternate, /* 24 for one that is missing */
     float coverage, float confidence,
-    const double *starts, size_t start_count, /* in seconds, at most 1,023; each is the end before it, the first is 0 */
+    const double *starts, size_t start_count, /* in seconds, at most 4,095; each is the end before it, the first is 0 */
     const double *ends, size_t end_count, /* as many */
     const uint8_t *keys, size_t key_count, /* as many */
     const float *confidences, size_t confidence_count, /* as many */
     uint8_t *bytes, size_t byte_count); /* ULYPTESH_CARD_BYTES of the segments; the card, from the front */
 
-/* Reads a key card. The room for its segments is the shortest of the four slices that are written to. With 1,023 rows,
+/* Reads a key card. The room for its segments is the shortest of the four slices that are written to. With 4,095 rows,
    or with ULYPTESH_CARD_SEGMENTS of its bytes, 24 never comes. A card that a version before 0.2.0 wrote may end up to
    half a millisecond after the audio. */
 UlypteshCardRead *ulyptesh_read_card(
@@ -275,7 +283,7 @@ UlypteshCardRead *ulyptesh_read_card(
 UlypteshWritten ulyptesh_write_packed_card(
     uint32_t key, uint32_t dsp_key, uint32_t alternate, /* 24 for one that is missing */
     uint32_t coverage, uint32_t confidence, /* in thousandths, not the analysis' floats */
-    const uint32_t *starts, size_t start_count, /* in ms, at most 1,023; each is the end before it, the first is 0 */
+    const uint32_t *starts, size_t start_count, /* in ms, at most 4,095; each is the end before it, the first is 0 */
     const uint32_t *ends, size_t end_count, /* as many */
     const uint8_t *keys, size_t key_count, /* as many */
     const uint16_t *confidences, size_t confidence_count, /* as many; in thousandths */

@@ -79,7 +79,7 @@ static int same_again(const Card *card, const uint8_t *bytes, size_t count)
 {
     const UlypteshCardRead *head = &card->head;
     size_t rows = (size_t)head->segments;
-    uint8_t again[MOST_BYTES];
+    static uint8_t again[MOST_BYTES];
     UlypteshWritten written = ulyptesh_write_packed_card(
         head->key, head->dsp_key, head->alternate, head->coverage, head->confidence, card->starts, rows, card->ends,
         rows, card->keys, rows, card->confidences, rows, again, sizeof again);

@@ -384,8 +384,11 @@ static int chroma_shapes(void)
 #define ROW_O {0x1A, 0xD7, 0x00, 0x03, 0xE8, 0x00, 0x81, 0x5F, 0x90, 0x55, 0xF4}
 #define ROW_P {0x1C, 0x63, 0x00, 0x00, 0x00, 0x00, 0x00}
 
-static const uint8_t ONE[ULYPTESH_CARD_BYTES(1)] = ROW_O;
-static const uint8_t NONE[ULYPTESH_CARD_BYTES(0)] = ROW_P;
+static const uint8_t ONE[ULYPTESH_LAYOUT_1_BYTES(1)] = ROW_O;
+static const uint8_t NONE[ULYPTESH_LAYOUT_1_BYTES(0)] = ROW_P;
+
+/* The same lone segment in layout 2, which it does not need. */
+#define ROW_O_IN_2 {0x2A, 0xD7, 0x00, 0x03, 0xE8, 0x00, 0x20, 0x0A, 0xFC, 0x82, 0xAF, 0xA0}
 
 /* Two rows, all 9 before a card is read. */
 typedef struct CardRows {
@@ -423,7 +426,7 @@ static int cards_refused(void)
     static const size_t ENOUGH[4] = {2, 2, 2, 2}, FEW[5][4] = {
         {0, 1, 1, 1}, {1, 0, 1, 1}, {1, 1, 0, 1}, {1, 1, 1, 0}, {0, 0, 0, 0}};
     uint8_t longer[sizeof ONE + 1] = ROW_O, layout[] = ROW_P, rule[] = ROW_O, filler[] = ROW_P;
-    layout[0] ^= 0x30;
+    layout[0] ^= 0x20;
     rule[2] ^= 0x20;
     filler[6] ^= 0x01;
     int done = card_refused(ULYPTESH_CARD_WRONG_LENGTH, NONE, sizeof NONE - 1, ENOUGH)
@@ -437,6 +440,22 @@ static int cards_refused(void)
     for (size_t at = 0; at < sizeof FEW / sizeof *FEW; at++)
         done = done && card_refused(ULYPTESH_TOO_FEW_CARD_ROWS, ONE, sizeof ONE, FEW[at]);
     return done;
+}
+
+/* Cards in layout 2 that layout 1 would have held, alone and with what is told before and after that. */
+static int needless_refused(void)
+{
+    static const size_t ENOUGH[4] = {2, 2, 2, 2}, FEW[4] = {1, 1, 0, 1};
+    uint8_t one[] = ROW_O_IN_2, none[] = ROW_P, rule[] = ROW_O_IN_2, filler[] = ROW_O_IN_2;
+    none[0] ^= 0x30;
+    rule[2] ^= 0x20;
+    filler[sizeof filler - 1] ^= 0x01;
+    return card_refused(ULYPTESH_CARD_NEEDLESS_LAYOUT, one, sizeof one, ENOUGH)
+        && card_refused(ULYPTESH_CARD_NEEDLESS_LAYOUT, none, sizeof none, ENOUGH)
+        && card_refused(ULYPTESH_CARD_NEEDLESS_LAYOUT, one, sizeof one, FEW)
+        && card_refused(ULYPTESH_CARD_WRONG_LENGTH, one, sizeof one - 1, ENOUGH)
+        && card_refused(ULYPTESH_CARD_BROKEN, rule, sizeof rule, ENOUGH)
+        && card_refused(ULYPTESH_CARD_BROKEN, filler, sizeof filler, ENOUGH);
 }
 
 /* Row o over two rows, of which the second stays; row p over none. */
@@ -490,34 +509,102 @@ static int cards_written(void)
         && packed_refused(ULYPTESH_TOO_FEW_BYTES, 21, 500, 0, 1, sizeof ONE - 1);
 }
 
-/* Whether a card of so many segments, each a millisecond of C major, is read over as many rows as its bytes tell. */
-static int read_by_its_bytes(size_t segments)
+/* Bytes for the card of a segment more than the most, and as many rows as suffice for so many bytes. */
+#define MOST ULYPTESH_MOST_CARD_SEGMENTS
+static uint8_t card_bytes[ULYPTESH_CARD_BYTES(MOST + 1)];
+#define CARD_ROWS ULYPTESH_CARD_SEGMENTS(sizeof card_bytes)
+static uint32_t card_starts[CARD_ROWS], card_ends[CARD_ROWS];
+static uint8_t card_keys[CARD_ROWS];
+static uint16_t card_confidences[CARD_ROWS];
+
+/* The last end of each layout, in milliseconds. */
+#define LAST_OF_1 14400000u
+#define LAST_OF_2 86400000u
+
+/* Writes the card of so many segments, each a millisecond of C major but the last one, which ends here, into so many
+   bytes. */
+static UlypteshWritten write_up_to(uint32_t last, size_t segments, size_t room)
 {
-    static uint32_t starts[ULYPTESH_MOST_CARD_SEGMENTS], ends[ULYPTESH_MOST_CARD_SEGMENTS];
-    static uint8_t keys[ULYPTESH_MOST_CARD_SEGMENTS], bytes[ULYPTESH_CARD_BYTES(ULYPTESH_MOST_CARD_SEGMENTS)];
-    static uint16_t confidences[ULYPTESH_MOST_CARD_SEGMENTS];
     uint32_t key = segments > 0 ? 0 : ULYPTESH_NO_KEY;
-    UlypteshCardRead told;
     for (size_t at = 0; at < segments; at++) {
-        starts[at] = (uint32_t)at;
-        ends[at] = (uint32_t)at + 1;
+        card_starts[at] = (uint32_t)at;
+        card_ends[at] = at + 1 < segments ? (uint32_t)at + 1 : last;
     }
-    UlypteshWritten written = ulyptesh_write_packed_card(key, key, ULYPTESH_NO_KEY, 0, 0, starts, segments, ends,
-                                                         segments, keys, segments, confidences, segments, bytes,
-                                                         ULYPTESH_CARD_BYTES(segments));
-    size_t rows = ULYPTESH_CARD_SEGMENTS(ULYPTESH_CARD_BYTES(segments));
-    ulyptesh_read_card(&told, bytes, written.length, starts, rows, ends, rows, keys, rows, confidences, rows);
-    return HOLDS(written.refusal == ULYPTESH_DONE && written.length == ULYPTESH_CARD_BYTES(segments))
-        && HOLDS(rows == segments) && HOLDS(told.refusal == ULYPTESH_DONE && told.segments == segments);
+    return ulyptesh_write_packed_card(key, key, ULYPTESH_NO_KEY, 0, 0, card_starts, segments, card_ends, segments,
+                                      card_keys, segments, card_confidences, segments, card_bytes, room);
 }
 
-/* Bytes and segments of cards of every count. */
-static int card_sizes(void)
+/* Whether that card has so many bytes. */
+static int card_has(size_t bytes, uint32_t last, size_t segments)
+{
+    UlypteshWritten written = write_up_to(last, segments, ULYPTESH_CARD_BYTES(segments));
+    return HOLDS(written.refusal == ULYPTESH_DONE && written.length == bytes);
+}
+
+/* Whether so many bytes are answered so, over as many rows as suffice for them; what is read has so many segments up to
+   this end. */
+static int card_answers(uint32_t refusal, size_t bytes, uint32_t last, size_t segments)
+{
+    UlypteshCardRead told;
+    size_t rows = ULYPTESH_CARD_SEGMENTS(bytes);
+    ulyptesh_read_card(&told, card_bytes, bytes, card_starts, rows, card_ends, rows, card_keys, rows, card_confidences,
+                       rows);
+    if (refusal != ULYPTESH_DONE)
+        return HOLDS(told.refusal == refusal && told.segments == 0);
+    return HOLDS(told.refusal == ULYPTESH_DONE && told.segments == segments)
+        && HOLDS(segments == 0 || card_ends[segments - 1] == last);
+}
+
+/* A millisecond for each segment: in layout 1, and in layout 2 where they are too many for it. */
+static int card_by_its_count(size_t segments)
+{
+    uint32_t last = (uint32_t)segments;
+    int fits = segments <= ULYPTESH_LAYOUT_1_SEGMENTS;
+    size_t bytes = fits ? ULYPTESH_LAYOUT_1_BYTES(segments) : ULYPTESH_LAYOUT_2_BYTES(segments);
+    return HOLDS(!fits || ULYPTESH_CARD_SEGMENTS(bytes) == segments) && card_has(bytes, last, segments)
+        && card_answers(ULYPTESH_DONE, bytes, last, segments);
+}
+
+/* So many segments fit layout 1 and end too late for it; a millisecond less, by the end's last bit, the 27th of its
+   segment, and layout 2 is needless. */
+static int card_by_its_end(size_t segments)
+{
+    size_t bytes = ULYPTESH_LAYOUT_2_BYTES(segments), place = 51 + 42 * (segments - 1) + 26;
+    int done = card_has(bytes, LAST_OF_1 + 1, segments) && card_answers(ULYPTESH_DONE, bytes, LAST_OF_1 + 1, segments);
+    card_bytes[place / 8] ^= (uint8_t)(0x80 >> place % 8);
+    return done && card_answers(ULYPTESH_CARD_NEEDLESS_LAYOUT, bytes, LAST_OF_1, segments);
+}
+
+/* Whether the test passes for every so many counts from the first to the last. */
+static int passes_each(int (*passes)(size_t), size_t first, size_t last, size_t step)
 {
     int done = 1;
-    for (size_t segments = 0; segments <= ULYPTESH_MOST_CARD_SEGMENTS; segments++)
-        done = done && read_by_its_bytes(segments);
+    for (size_t segments = first; segments <= last; segments += step)
+        done = done && passes(segments);
     return done;
+}
+
+/* Bytes and rows of cards in both layouts, of every so many counts. */
+static int sizes_by(size_t step)
+{
+    return passes_each(card_by_its_count, 0, MOST, step)
+        && passes_each(card_by_its_end, 1, ULYPTESH_LAYOUT_1_SEGMENTS, step);
+}
+
+/* Of every count. */
+static int card_sizes(void)
+{
+    return sizes_by(1);
+}
+
+/* The most segments up to the last end; refused: a byte too few, a segment more, a millisecond more. */
+static int largest_card(void)
+{
+    size_t bytes = ULYPTESH_LAYOUT_2_BYTES(MOST);
+    return HOLDS(write_up_to(LAST_OF_2, MOST, bytes - 1).refusal == ULYPTESH_TOO_FEW_BYTES)
+        && HOLDS(write_up_to(LAST_OF_2, MOST + 1, sizeof card_bytes).refusal == ULYPTESH_UNWRITABLE)
+        && HOLDS(write_up_to(LAST_OF_2 + 1, MOST, bytes).refusal == ULYPTESH_UNWRITABLE)
+        && card_has(bytes, LAST_OF_2, MOST) && card_answers(ULYPTESH_DONE, bytes, LAST_OF_2, MOST);
 }
 
 /* The card of one segment up to so many seconds, and what is read of it. */
@@ -526,7 +613,7 @@ static UlypteshWritten card_up_to(double seconds, CardRows *rows)
     static const double STARTS[] = {0.0};
     static const uint8_t KEYS[] = {21};
     static const float CONFIDENCES[] = {0.5f};
-    uint8_t bytes[sizeof ONE] = {0};
+    uint8_t bytes[ULYPTESH_CARD_BYTES(1)] = {0};
     UlypteshCardRead told;
     UlypteshWritten written = ulyptesh_write_card(21, 21, ULYPTESH_NO_KEY, 0.0f, 0.5f, STARTS, 1, &seconds, 1, KEYS, 1,
                                                   CONFIDENCES, 1, bytes, sizeof bytes);
@@ -549,14 +636,15 @@ static int has_no_card(double seconds)
     return HOLDS(card_up_to(seconds, &rows).refusal == ULYPTESH_UNWRITABLE);
 }
 
-/* A second less one sample, a float a hair below its millisecond, whole ones, the zeros, the longest track; refused: a
-   millisecond after that, below 0, no number. */
+/* A second less one sample, a float a hair below its millisecond, whole ones, the zeros, the last end of layout 1 and
+   the next, the longest track; refused: a millisecond after that, below 0, no number. */
 static int ends_rounded_down(void)
 {
     return ends_at(7999.0 / 8000.0, 999) && ends_at(44099.0 / 44100.0, 999) && ends_at(191999.0 / 192000.0, 999)
         && ends_at(8640480.0 / 48000.0, 180009) && ends_at(180.0, 180000) && ends_at(0.5, 500) && ends_at(0.0, 0)
         && ends_at(-0.0, 0) && ends_at(14400.0, 14400000) && ends_at(14400.0009, 14400000)
-        && has_no_card(14400.0011) && has_no_card(-0.0001) && has_no_card(-nextafter(0.0, 1.0)) && has_no_card(NAN);
+        && ends_at(14400.0011, 14400001) && ends_at(86400.0, 86400000) && ends_at(86400.0009, 86400000)
+        && has_no_card(86400.0011) && has_no_card(-0.0001) && has_no_card(-nextafter(0.0, 1.0)) && has_no_card(NAN);
 }
 
 /* Cards read and written from packed numbers, whichever way floats are rounded, with no sign of a float worked out. */
@@ -565,8 +653,8 @@ static int cards_rounded(void)
     static const int WAYS[] = {FE_UPWARD, FE_DOWNWARD, FE_TOWARDZERO};
     int done = HOLDS(feclearexcept(FE_ALL_EXCEPT) == 0);
     for (size_t at = 0; at < sizeof WAYS / sizeof *WAYS; at++)
-        done = done && HOLDS(fesetround(WAYS[at]) == 0) && cards_read() && cards_refused() && cards_written()
-            && card_sizes() && HOLDS(fetestexcept(FE_ALL_EXCEPT) == 0);
+        done = done && HOLDS(fesetround(WAYS[at]) == 0) && cards_read() && cards_refused() && needless_refused()
+            && cards_written() && sizes_by(97) && largest_card() && HOLDS(fetestexcept(FE_ALL_EXCEPT) == 0);
     return HOLDS(fesetround(FE_TONEAREST) == 0) && done;
 }
 
@@ -580,7 +668,7 @@ static int refused(UlypteshSettings settings, uint32_t expected)
 /* Settings by which no track can be analysed. */
 static int settings_refused(void)
 {
-    UlypteshSettings fast = usual(), wide = fast, vague = fast, hasty = fast, still = fast, turned = fast, slow = fast,
+    UlypteshSettings fast = usual(), wide = fast, vague = fast, hasty = fast, still = fast, turned = fast,
                      unknown = fast;
     fast.rate = 192001;
     wide.frame_size = SIZE_MAX;
@@ -588,14 +676,32 @@ static int settings_refused(void)
     hasty.local_hop_seconds = 0.4f;
     still.hop_size = 0;
     turned.minimum_midi_note = turned.maximum_midi_note + 1;
-    slow.rate = 1;
-    slow.frame_size = ULYPTESH_LONGEST_TRACK_SECONDS + 1;
     unknown.engine = NO_ENGINE;
     return refused(fast, ULYPTESH_RATE_TOO_HIGH) && refused(wide, ULYPTESH_SIZE_TOO_LARGE)
         && refused(vague, ULYPTESH_SETTING_NOT_FINITE) && refused(hasty, ULYPTESH_LOCAL_HOP_TOO_SHORT)
         && refused(still, ULYPTESH_EASY_NOTHING_ANALYSED) && refused(turned, ULYPTESH_EASY_NOTHING_ANALYSED)
         && refused(ulyptesh_easy_settings(0), ULYPTESH_EASY_NOTHING_ANALYSED)
-        && refused(slow, ULYPTESH_EASY_NOTHING_ANALYSED) && refused(unknown, ULYPTESH_UNKNOWN_ENGINE);
+        && refused(unknown, ULYPTESH_UNKNOWN_ENGINE);
+}
+
+/* A day at 1 Hz is taken, with the largest frame too; a sample more is refused. */
+static int longest_track(void)
+{
+    static float silence[ULYPTESH_LONGEST_TRACK_SECONDS + 1];
+    static const size_t DAY = ULYPTESH_LONGEST_TRACK_SECONDS;
+    UlypteshSettings slow = ulyptesh_easy_settings(1);
+    UlypteshAnalyseResult told;
+    UlypteshFramesResult frames;
+    uint32_t status;
+    slow.frame_size = 65536;
+    UlypteshEasy *easy = ulyptesh_easy_new_for(slow, &status);
+    int done = HOLDS(easy != NULL && status == ULYPTESH_DONE)
+        && HOLDS(ulyptesh_easy_analyse(easy, silence, DAY, &told) == ULYPTESH_DONE && told.key == ULYPTESH_NO_KEY)
+        && HOLDS(ulyptesh_easy_frames(easy, silence, DAY, &frames) == ULYPTESH_DONE && frames.count == 0)
+        && HOLDS(ulyptesh_easy_analyse(easy, silence, DAY + 1, &told) == ULYPTESH_TRACK_TOO_LONG)
+        && HOLDS(ulyptesh_easy_frames(easy, silence, DAY + 1, &frames) == ULYPTESH_TRACK_TOO_LONG);
+    ulyptesh_easy_free(easy);
+    return done;
 }
 
 /* A major third and a fifth over C. */
@@ -639,7 +745,7 @@ static int estimates_in_c_major(const UlypteshEasy *easy, size_t count)
 /* Whether a track is told as one segment in C major, with its card. */
 static int told_as_c_major(UlypteshEasy *easy, size_t samples)
 {
-    uint8_t card[ULYPTESH_CARD_BYTES(1)];
+    uint8_t card[ULYPTESH_LAYOUT_1_BYTES(1)];
     UlypteshAnalyseResult told;
     return HOLDS(ulyptesh_easy_analyse(easy, tone, samples, &told) == ULYPTESH_DONE)
         && HOLDS(told.key == 0 && told.segments == 1 && told.shapeless == 0)
@@ -668,7 +774,7 @@ static int same_answer(const UlypteshAnalyseResult *one, const UlypteshAnalyseRe
 /* Whether the tone is told alike by two that differ in their engines: the answer, each loud frame, the card. */
 static int told_alike(UlypteshEasy *one, UlypteshEasy *other)
 {
-    uint8_t card[ULYPTESH_CARD_BYTES(1)], other_card[sizeof card];
+    uint8_t card[ULYPTESH_LAYOUT_1_BYTES(1)], other_card[sizeof card];
     UlypteshAnalyseResult told, other_told;
     int done = HOLDS(ulyptesh_easy_analyse(one, tone, SHORT, &told) == ULYPTESH_DONE)
         && HOLDS(ulyptesh_easy_analyse(other, tone, SHORT, &other_told) == ULYPTESH_DONE)
@@ -758,11 +864,14 @@ static const struct {
     {"chroma-shapes", chroma_shapes},
     {"cards-read", cards_read},
     {"cards-refused", cards_refused},
+    {"needless-refused", needless_refused},
     {"cards-written", cards_written},
     {"card-sizes", card_sizes},
+    {"largest-card", largest_card},
     {"ends-rounded-down", ends_rounded_down},
     {"cards-rounded", cards_rounded},
     {"settings-refused", settings_refused},
+    {"longest-track", longest_track},
     {"engines-agree", engines_agree},
     {"tracks-in-turn", tracks_in_turn},
     {"no-memory", no_memory},

@@ -301,10 +301,7 @@ static uint32_t equip(UlypteshEasy *easy, const UlypteshSettings *settings)
     refusal = analysed(easy, sheet->window, sheet->window_count).refusal;
     if (refusal == ULYPTESH_TOO_FEW_ROWS)
         return ULYPTESH_DONE;
-    /* a frame that is longer than the longest track is in none */
-    if (refusal == ULYPTESH_DONE || refusal == ULYPTESH_TRACK_TOO_LONG)
-        return ULYPTESH_EASY_NOTHING_ANALYSED;
-    return refusal;
+    return refusal == ULYPTESH_DONE ? (uint32_t)ULYPTESH_EASY_NOTHING_ANALYSED : refusal;
 }
 
 /* What the header declares */
@@ -445,7 +442,7 @@ const char *ulyptesh_easy_words(uint32_t status)
     case ULYPTESH_RATE_TOO_HIGH: return "the rate is above 192,000";
     case ULYPTESH_SIZE_TOO_LARGE: return "the frame size or the hop size is too large";
     case ULYPTESH_SETTING_NOT_FINITE: return "a setting is not finite";
-    case ULYPTESH_TRACK_TOO_LONG: return "the track is longer than 14,400 s";
+    case ULYPTESH_TRACK_TOO_LONG: return "the track is longer than 24 hours";
     case ULYPTESH_LOCAL_HOP_TOO_SHORT: return "the local hop is below half a second";
     case ULYPTESH_SHEET_OF_ANOTHER_CALL: return "the sheet is for another rate, other notes or another frame size";
     case ULYPTESH_SHEET_NOT_WELL_FORMED: return "the sheet is not well formed";
@@ -458,6 +455,7 @@ const char *ulyptesh_easy_words(uint32_t status)
     case ULYPTESH_CARD_WRONG_LENGTH: return "the card is too short, or not as long as its segment count gives";
     case ULYPTESH_CARD_UNKNOWN_LAYOUT: return "the card's layout is not known";
     case ULYPTESH_CARD_BROKEN: return "the card breaks a card rule, or a bit behind its last field is set";
+    case ULYPTESH_CARD_NEEDLESS_LAYOUT: return "the card is in layout 2, and layout 1 would have held it";
     case ULYPTESH_TOO_FEW_CARD_ROWS: return "the card needs more segment rows";
     case ULYPTESH_EASY_NO_MEMORY: return "too little memory";
     case ULYPTESH_EASY_OTHER_LIBRARY: return "the library has another interface than its header";

@@ -38,9 +38,9 @@ given settings head samples window coefficients weights lengths qCoefficients qW
 unfoldable pub secondsAt : Settings → ℕ → Float
 secondsAt s sample = div binary64 (ofInt binary64 (pos sample)) (ofInt binary64 (pos (s .rate)))
 
--- the longest track in seconds
+-- the longest track in seconds: a day
 abbrev pub longestTrack : ℕ
-longestTrack = 14_400
+longestTrack = 86_400
 
 -- how many frames a track of so many samples has: the last one starts at or before count - frame size
 abbrev pub positionsOf : Settings → ℕ → ℕ

@@ -1,7 +1,7 @@
 // What a call is asked, and what the sheet that it lends was made for.
 
 // The longest track in seconds.
-pub const LONGEST_TRACK: usize = 14_400;
+pub const LONGEST_TRACK: usize = 86_400;
 
 // The track's rate, then the Rust's `KeyConfig`, then the engine: 0 all rows side by side, 1 four rows at a time.
 #[repr(C)]

@@ -3,3 +3,4 @@ pub mod Unbroken
 pub mod Fits
 pub mod Judged
 pub mod Known
+pub mod Chosen

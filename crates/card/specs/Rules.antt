@@ -1,13 +1,15 @@
--- 01's card rules, on the packed numbers. Each test is a way to break one. Definitions only.
+-- 01's card rules, on the packed numbers, each test a way to break one; and the layout that they leave. Definitions only.
 use Prim.Native.Nat.{ℕ, zero, suc}
-use mathlib.Core.Bool.{Bool, not, _&&_, _||_}
+use mathlib.Core.Bool.{Bool, not, _&&_, _||_, cond}
 use mathlib.Core.List.{List, [], _∷_}
 use lib.Dec.{eqb, leb, ltb}
 use lib.ListN.{length, getD}
 use Rattle.laws.specs.First.{first}
 use Rattle.laws.specs.Table.{anyOf}
-use Rattle.card.specs.Layout.{Meaning}
+use Rattle.card.specs.Layout.{Meaning, layout1, layouts}
 use Rattle.card.specs.declared.layout.Layout.{Layout}
+use Rattle.card.specs.declared.layout.FoundLayout.{FoundLayout}
+use Rattle.card.specs.declared.layout.FoundLayout.the-variants.{Found, Missing}
 use Rattle.card.specs.declared.layout.Header.{Header}
 use Rattle.card.specs.declared.layout.Segment.{Segment}
 
@@ -79,3 +81,17 @@ firstBroken l ss = first (brokenAt l ss) (length ss) 0
 -- a meaning breaks the card rules
 unfoldable pub cardBroken : Layout → Meaning → Bool
 cardBroken l m = headerBroken l (m .header) (length (m .segments)) || ltb (firstBroken l (m .segments)) (length (m .segments))
+
+-- ---- which layout
+-- the first of several layouts whose rules a meaning keeps
+abbrev pub keptIn : List Layout → Meaning → FoundLayout
+keptIn [] m = Missing
+keptIn (l ∷ ls) m = cond (cardBroken l m) (keptIn ls m) (Found l)
+
+-- the layout that a meaning is written in: layout 1 wherever that holds it
+unfoldable pub layoutFor : Meaning → FoundLayout
+layoutFor m = keptIn layouts m
+
+-- another layout than 1 for a meaning that layout 1 holds
+unfoldable pub needless : Layout → Meaning → Bool
+needless l m = not (eqb (l .number) (layout1 .number)) && not (cardBroken layout1 m)

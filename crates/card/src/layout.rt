@@ -1,6 +1,6 @@
 // A card's layouts, and the packed numbers that it holds.
 ghost use mathlib.Core.Path.{_≡_};
-ghost use Rattle.card.specs.Layout.{layout1, layouts, numberedIn, isKnown, layoutOr1};
+ghost use Rattle.card.specs.Layout.{layout1, layout2, layouts, numberedIn, isFound, layoutOr1};
 
 // A layout's number, the bits of its segment count and of an end, the most segments, and the last end in ms.
 pub struct Layout {
@@ -28,7 +28,10 @@ pub struct Segment {
 }
 
 // The most segments of any card.
-pub const MOST_SEGMENTS: usize = 1_023;
+pub const MOST_SEGMENTS: usize = 4_095;
+
+// The last end of any card in ms.
+pub const LAST_END: u64 = 86_400_000;
 
 // Layout 1, for up to four hours.
 pub fn layout_1() -> Layout
@@ -43,38 +46,54 @@ pub fn layout_1() -> Layout
     }
 }
 
-// The layout that has a number, or that none is known to have it.
-pub enum Numbered {
-    Known(Layout),
-    Unknown,
+// Layout 2, for up to a day.
+pub fn layout_2() -> Layout
+    ensures { λ r. ⌜ r ≡ layout2 ⌝ }
+{
+    Layout {
+        number: 2,
+        count: 12,
+        end: 27,
+        most: 4_095,
+        last: 86_400_000,
+    }
+}
+
+// A layout that was looked for, or that there is none.
+pub enum FoundLayout {
+    Found(Layout),
+    Missing,
 }
 
 // The known layout with this number.
-pub fn layout_numbered(number: u64) -> Numbered
+pub fn layout_numbered(number: u64) -> FoundLayout
     ensures { λ r. ⌜ r ≡ numberedIn layouts number ⌝ }
 {
     if number == 1 {
-        return Numbered::Known(layout_1());
+        return FoundLayout::Found(layout_1());
     }
-    Numbered::Unknown
+    if number == 2 {
+        return FoundLayout::Found(layout_2());
+    }
+    FoundLayout::Missing
 }
 
 // Whether a layout was found.
-pub fn is_known(found: Numbered) -> bool
-    ensures { λ r. ⌜ r ≡ isKnown found ⌝ }
+pub fn is_found(found: FoundLayout) -> bool
+    ensures { λ r. ⌜ r ≡ isFound found ⌝ }
 {
     match found {
-        Numbered::Known(l) => true,
-        Numbered::Unknown => false,
+        FoundLayout::Found(l) => true,
+        FoundLayout::Missing => false,
     }
 }
 
 // The layout that was found; where there is none, layout 1.
-pub fn layout_or_1(found: Numbered) -> Layout
+pub fn layout_or_1(found: FoundLayout) -> Layout
     ensures { λ r. ⌜ r ≡ layoutOr1 found ⌝ }
 {
     match found {
-        Numbered::Known(l) => l,
-        Numbered::Unknown => layout_1(),
+        FoundLayout::Found(l) => l,
+        FoundLayout::Missing => layout_1(),
     }
 }

@@ -3,8 +3,7 @@ use mathlib.Core.List.{List}
 use Prim.Native.Nat.{ℕ}
 use lib.Ieee.{Float}
 use Rattle.card_judge.specs.declared.analysed.Overall.{Overall}
-use Rattle.card.specs.Layout.{layout1}
-use Rattle.card_form.specs.Form.{cardBytes}
+use Rattle.card_form.specs.Form.{cardFor}
 use Rattle.card_judge.specs.Analysed.{Analysis, meaningOf, unwritable}
 use Rattle.written.specs.Outcome.{BytesOutcome, writtenAs}
 
@@ -14,8 +13,8 @@ overall key dsp alternate coverage confidence = record { key = key; dsp = dsp; a
 
 -- the card of an analysis
 abbrev pub cardOf : Analysis → List ℕ
-cardOf a = cardBytes layout1 (meaningOf layout1 a)
+cardOf a = cardFor (meaningOf a)
 
 -- 11 for an analysis that no card holds and 12 for too few bytes leave the bytes as they are; else the card stands at their front
 abbrev pub cardCall : Analysis → List ℕ → BytesOutcome
-cardCall a bytes = writtenAs (unwritable layout1 a) (cardOf a) bytes
+cardCall a bytes = writtenAs (unwritable a) (cardOf a) bytes

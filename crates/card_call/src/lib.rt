@@ -3,10 +3,10 @@ ghost use mathlib.Core.Path.{_≡_};
 ghost use Rattle.card_judge.specs.Analysed.{analysis};
 ghost use Rattle.card_call.specs.Cards.{overall, cardCall};
 ghost use Rattle.written.specs.Outcome.{bytesOutcome};
-use card::layout::layout_1;
+use card::layout::FoundLayout;
 use card_form::card_size;
 use card_judge::analysed::Overall;
-use card_judge::analysed::is_unwritable;
+use card_judge::analysed::layout_of;
 use card_writer::write::write_card;
 use written::Written;
 use written::refused;
@@ -34,15 +34,17 @@ pub fn write_analysed_card(
         coverage,
         confidence,
     };
-    let l = layout_1();
-    if is_unwritable(l, o, starts, ends, keys, confidences) {
-        return refused(11);
-    }
-    if bytes.len() < card_size(l, ends.len()) {
-        return refused(12);
-    }
-    Written {
-        refusal: 0,
-        length: write_card(bytes, l, o, ends, keys, confidences),
+    let found = layout_of(o, starts, ends, keys, confidences);
+    match found {
+        FoundLayout::Missing => refused(11),
+        FoundLayout::Found(l) => {
+            if bytes.len() < card_size(l, ends.len()) {
+                return refused(12);
+            }
+            Written {
+                refusal: 0,
+                length: write_card(bytes, l, o, ends, keys, confidences),
+            }
+        }
     }
 }

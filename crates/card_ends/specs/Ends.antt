@@ -7,9 +7,8 @@ use Rattle.calls.specs.Call.{Call, Typed}
 use Rattle.rooms.specs.Lent.{Lent}
 use Rattle.loud_frames.specs.Loud.{AnalyseOutcome}
 use Rattle.analysis.specs.Analyse.{analysed}
-use Rattle.card.specs.Layout.{Meaning, layout1}
+use Rattle.card.specs.Layout.{Meaning, lastEnd}
 use Rattle.card.specs.Rules.{cardSegment}
-use Rattle.card.specs.declared.layout.Layout.{Layout}
 use Rattle.card_judge.specs.Analysed.{Analysis, meaningOf, unwritable}
 use Rattle.card_call.specs.Cards.{cardOf}
 use Rattle.card_call.specs.Answered.{cardOfAnswer}
@@ -24,16 +23,23 @@ cardOfOutcome o = cardOfAnswer (o .answer) (o .lent .segments)
 abbrev pub AllInside : Call → Meaning → Type 0
 AllInside c m = (i : ℕ) → i < length (m .segments) → Inside (cardSegment (m .segments) i .end) (c .settings .rate) (length (c .samples))
 
--- so does each end of the meaning that a card is written from: of every call, whatever is lent, and in every layout that holds the analysis
+-- so does each end of the meaning that a card is written from: of every call, whatever is lent, and whatever its layout
 abbrev pub EndsInside : Type 0
 EndsInside =
-    (c : Call) (lent : Lent) → Typed (c .settings) → (l : Layout) →
+    (c : Call) (lent : Lent) → Typed (c .settings) →
     let a = cardOfOutcome (analysed c lent) in
-    unwritable l a ≡ false → AllInside c (meaningOf l a)
+    unwritable a ≡ false → AllInside c (meaningOf a)
 
 -- and each end that a deck reads on that card, with rows for its segments
 abbrev pub ReadInside : Type 0
 ReadInside =
     (c : Call) (lent : Lent) → Typed (c .settings) →
     let a = cardOfOutcome (analysed c lent) in
-    unwritable layout1 a ≡ false → (rows : ℕ) → length (a .ends) ≤ rows → (m : Meaning) → readOf (cardOf a) rows ≡ says m → AllInside c m
+    unwritable a ≡ false → (rows : ℕ) → length (a .ends) ≤ rows → (m : Meaning) → readOf (cardOf a) rows ≡ says m → AllInside c m
+
+-- where a key is reported no end is too late for a card: the longest track ends where the last layout does
+abbrev pub EndsHeld : Type 0
+EndsHeld =
+    (c : Call) (lent : Lent) → Typed (c .settings) → analysed c lent .answer .key < 24 →
+    let ss = meaningOf (cardOfOutcome (analysed c lent)) .segments in
+    (i : ℕ) → i < length ss → cardSegment ss i .end ≤ lastEnd

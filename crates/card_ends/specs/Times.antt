@@ -1,11 +1,12 @@
--- Milliseconds beside the samples of a track, in whole numbers. Definitions and the statement; proofs/Times.antt proves it.
+-- Milliseconds beside the samples of a track, in whole numbers. Definitions and the statements; proofs/Times.antt and Held.antt prove them.
 use mathlib.Core.Path.{_≡_}
-use Prim.Native.Nat.{ℕ, _*_, _^_, _≤_, _<_}
+use Prim.Native.Nat.{ℕ, _+_, _*_, _^_, _≤_, _<_}
 use lib.Dec.{T}
-use lib.Ieee.{Float, le}
+use lib.Ieee.{Float, binary64, le}
+use Rattle.laws.specs.Convert.{parts}
 use Rattle.calls.specs.Call.{secondsAt}
 use Rattle.calls.specs.declared.Settings.{Settings}
-use Rattle.packed.specs.Packing.{millisecondsOf}
+use Rattle.packed.specs.Packing.{numberOr, millisecondsOf}
 use Rattle.packed.specs.declared.Packed.the-variants.{Number}
 use Rattle.timeline.specs.Tiling.{Time}
 
@@ -24,3 +25,9 @@ abbrev pub TimesInside : Type 0
 TimesInside =
     (seconds : ℕ) → seconds < 2 ^ 25 → (s : Settings) (samples : ℕ) → Lasting seconds s samples →
     (x : Float) → Time x → T (le x (secondsAt s samples)) → (limit n : ℕ) → millisecondsOf x limit ≡ Number n → Inside n (s .rate) samples
+
+-- a time of so many seconds at most is packed as their milliseconds at most, where the limit is no lower
+abbrev pub TimesHeld : Type 0
+TimesHeld =
+    (seconds : ℕ) → seconds < 2 ^ 53 → (x : Float) → Time x → T (le x (parts binary64 0 seconds)) → (limit : ℕ) → seconds * 1000 ≤ limit →
+    numberOr (limit + 1) (millisecondsOf x limit) ≤ seconds * 1000

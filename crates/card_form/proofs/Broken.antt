@@ -1,25 +1,50 @@
 -- Whether a card holds a header and n segments, test by test; segment i, `at i`, is read from anywhere.
-use mathlib.Core.Path.{_≡_, ap, _∙_}
-use mathlib.Core.Bool.{Bool, true, false, not}
-use mathlib.Core.List.{List, [], _∷_}
+use mathlib.Core.Path.{_≡_, refl, sym, ap, _∙_}
+use mathlib.Core.Bool.{Bool, true, false, not, _||_, cond}
+use mathlib.Core.List.{[], _∷_}
 use Prim.Native.Nat.{ℕ, _≤_, _<_}
+use native.Mathlib.Omega.{arith}
 use lib.ListN.{length}
 use lib.Dec.{eqb, ltb}
 use borrow.Author.Tests.{eqb-true, not-false, lt-ltb, le-ltb}
 use Rattle.laws.specs.Front.{list}
-use Rattle.laws.specs.Table.{anyOf}
-use Rattle.laws.proofs.Table.{none-of}
+use Rattle.laws.proofs.Table.{none-of, left-failed}
 use Rattle.laws.proofs.Front.{length-list}
-use Rattle.card.specs.Layout.{Meaning}
-use Rattle.card.specs.Rules.{headerBroken, firstBroken, cardBroken}
+use Rattle.card.specs.Layout.{Meaning, layoutOr1}
+use Rattle.card.specs.Rules.{headerBroken, firstBroken, cardBroken, layoutFor}
+use Rattle.card_form.specs.Form.{cardBytes, cardFor}
 use Rattle.card_form.specs.Rows.{unequal}
 use Rattle.card.specs.declared.layout.Layout.{Layout}
+use Rattle.card.specs.declared.layout.FoundLayout.{FoundLayout}
+use Rattle.card.specs.declared.layout.FoundLayout.the-variants.{Found, Missing}
 use Rattle.card.specs.declared.layout.Header.{Header}
 use Rattle.card.specs.declared.layout.Segment.{Segment}
 
+-- the card of a meaning is in its layout
+pub card-in : (m : Meaning) {l : Layout} → layoutFor m ≡ Found l → cardBytes l m ≡ cardFor m
+card-in m kept = ap (λ (found : FoundLayout). cardBytes (layoutOr1 found) m) (sym kept)
+
+-- ---- the rules of a layout
+module _ (l : Layout) (h : Header) (at : ℕ → Segment) (count : ℕ) where
+  abbrev said : Meaning
+  said = record { header = h; segments = list at count }
+
+  -- the header as the meaning has it
+  of-header : {b : Bool} → headerBroken l h count ≡ b → headerBroken l h (length (list at count)) ≡ b
+  of-header e = ap (headerBroken l h) (length-list at count) ∙ e
+
+  pub by-header : headerBroken l h count ≡ true → true ≡ cardBroken l said
+  unfolding cardBroken
+  by-header e = rw (of-header e)
+
+  -- by the first segment that was found to break a rule
+  pub by-segments : {found : ℕ} → headerBroken l h count ≡ false → found ≡ firstBroken l (list at count) → ltb found count ≡ cardBroken l said
+  unfolding cardBroken
+  by-segments e first = rw (of-header e, first, length-list at count)
+
+-- ---- the layout
 -- what is judged: the header, the segments, of which there are as many as ends, how long the other lists are, and the first gap
 pub record Asked : Type 0 where
-  pub layout : Layout
   pub header : Header
   pub at : ℕ → Segment
   pub count : ℕ
@@ -29,52 +54,32 @@ pub record Asked : Type 0 where
   pub gap : ℕ
 
 -- what it says
-abbrev pub said : Asked → Meaning
-said a = record { header = a .header; segments = list (a .at) (a .count) }
+abbrev pub meant : Asked → Meaning
+meant a = record { header = a .header; segments = list (a .at) (a .count) }
 
--- the tests that a card must fail
-abbrev pub tests : Asked → List Bool
-tests a = unequal (a .starts) (a .count) (a .keys) (a .confidences) ∷ cardBroken (a .layout) (said a) ∷ ltb (a .gap) (a .count) ∷ []
+-- the layout that it is written in
+abbrev pub layoutAsked : Asked → FoundLayout
+layoutAsked a = cond (unequal (a .starts) (a .count) (a .keys) (a .confidences) || ltb (a .gap) (a .count)) Missing (layoutFor (meant a))
 
--- lists of equal length, and no rule broken
-pub record Held (a : Asked) : Type 0 where
+-- lists of equal length, and a layout whose card it is
+pub record Held (a : Asked) (l : Layout) : Type 0 where
   pub started : a .starts ≡ a .count
   pub keyed : a .keys ≡ a .count
   pub trusted : a .confidences ≡ a .count
-  pub good : cardBroken (a .layout) (said a) ≡ false
+  pub kept : layoutFor (meant a) ≡ Found l
 
 module _ (a : Asked) where
   abbrev pub Unequal : Bool → Type 0
   Unequal b = unequal (a .starts) (a .count) (a .keys) (a .confidences) ≡ b
 
-  abbrev pub InHeader : Bool → Type 0
-  InHeader b = headerBroken (a .layout) (a .header) (a .count) ≡ b
-
-  abbrev first-bad : ℕ
-  first-bad = firstBroken (a .layout) (list (a .at) (a .count))
-
-  -- the header and the segments as the meaning has them
-  of-header : {b : Bool} → InHeader b → headerBroken (a .layout) (a .header) (length (said a .segments)) ≡ b
-  of-header h = ap (headerBroken (a .layout) (a .header)) (length-list (a .at) (a .count)) ∙ h
-
-  of-segments : {b : Bool} → ltb first-bad (a .count) ≡ b → ltb first-bad (length (said a .segments)) ≡ b
-  of-segments s = ap (ltb first-bad) (length-list (a .at) (a .count)) ∙ s
-
-  pub by-lengths : Unequal true → true ≡ anyOf (tests a)
+  pub by-lengths : Unequal true → Missing ≡ layoutAsked a
   by-lengths u = rw u
 
-  pub by-header : Unequal false → InHeader true → true ≡ anyOf (tests a)
-  unfolding cardBroken
-  by-header u h = rw (u, of-header h)
+  pub by-gap : {gap : ℕ} → Unequal false → gap ≡ a .gap → gap < a .count → Missing ≡ layoutAsked a
+  by-gap u g less = rw (u, ← g, lt-ltb _ _ less)
 
-  -- by the first segment that was found to break a rule, and the first gap
-  pub by-segments : {found : ℕ} → Unequal false → InHeader false → found ≡ first-bad → found < a .count → true ≡ anyOf (tests a)
-  unfolding cardBroken
-  by-segments u h e less = let bad : ltb first-bad (a .count) ≡ true = lt-ltb _ _ (rw e at less) in rw (u, of-header h, of-segments bad)
-
-  pub by-gaps : {found gap : ℕ} → Unequal false → InHeader false → found ≡ first-bad → a .count ≤ found → gap ≡ a .gap → ltb gap (a .count) ≡ anyOf (tests a)
-  unfolding cardBroken
-  by-gaps u h e all g = let good : ltb first-bad (a .count) ≡ false = le-ltb _ _ (rw e at all) in rw (u, of-header h, of-segments good, g)
+  pub by-layout : {gap : ℕ} {found : FoundLayout} → Unequal false → gap ≡ a .gap → a .count ≤ gap → found ≡ layoutFor (meant a) → found ≡ layoutAsked a
+  by-layout u g all e = rw (u, ← g, le-ltb _ _ all) e
 
   pub equal-lengths : Unequal false → (a .starts ≡ a .count) × (a .keys ≡ a .count) × (a .confidences ≡ a .count)
   unfolding unequal
@@ -85,8 +90,17 @@ module _ (a : Asked) where
         eqb-true (a .confidences) (a .count) (not-false _ (failed 2)),
       )
 
-  -- where no test passes
-  pub held : anyOf (tests a) ≡ false → Held a
-  held w =
-      let same = equal-lengths (none-of (tests a) w 0) in
-      record { started = same .0; keyed = same .1; trusted = same .2; good = none-of (tests a) w 1 }
+  pub held : {l : Layout} → layoutAsked a ≡ Found l → Held a l
+  held {l} = go apart refl
+    where
+      longer : Bool
+      longer = unequal (a .starts) (a .count) (a .keys) (a .confidences)
+
+      apart : Bool
+      apart = longer || ltb (a .gap) (a .count)
+
+      go : (b : Bool) → apart ≡ b → cond b Missing (layoutFor (meant a)) ≡ Found l → Held a l
+      go true t q = let z : _≡_ {A = ℕ} 0 1 = cc in absurd (omega arith)
+      go false t q =
+          let same = equal-lengths (left-failed longer (ltb (a .gap) (a .count)) t) in
+          record { started = same .0; keyed = same .1; trusted = same .2; kept = q }

@@ -6,7 +6,8 @@ use lib.Dec.{eqb}
 use lib.ListN.{length, drop, getD}
 use Rattle.laws.specs.Front.{list}
 use Rattle.bits.specs.Bits.{bytesFor, bytesOf, numberOf, fieldBits, fieldAt, fieldsOf}
-use Rattle.card.specs.Layout.{Meaning}
+use Rattle.card.specs.Layout.{Meaning, layoutOr1}
+use Rattle.card.specs.Rules.{layoutFor}
 use Rattle.card.specs.declared.layout.Layout.{Layout}
 use Rattle.card.specs.declared.layout.Header.{Header}
 use Rattle.card.specs.declared.layout.Segment.{Segment}
@@ -48,6 +49,10 @@ cardBits l m = headerBits l (m .header) (length (m .segments)) ++ segmentsBits l
 -- a card's bytes
 unfoldable pub cardBytes : Layout → Meaning → List ℕ
 cardBytes l m = bytesOf (cardBits l m)
+
+-- the card of a meaning that one holds, in the layout that it is written in
+abbrev pub cardFor : Meaning → List ℕ
+cardFor m = cardBytes (layoutOr1 (layoutFor m)) m
 
 -- where segment i begins, or, behind the last one, the filler
 abbrev pub segmentPlace : Layout → ℕ → ℕ

@@ -1,4 +1,4 @@
--- The rows of a meaning that breaks no rule are written as its card: no list is longer, no start is off.
+-- The rows of a meaning that a card holds are written as its card: no list is longer, no start is off.
 use mathlib.Core.Path.{_≡_, refl, sym, ap, ap₂, _∙_}
 use mathlib.Core.Bool.{Bool, true, false, not}
 use mathlib.Core.List.{List}
@@ -11,12 +11,12 @@ use borrow.Author.Tests.{eq-eqb, le-ltb}
 use Rattle.laws.specs.Front.{list}
 use Rattle.laws.proofs.Front.{length-list, getD-list, list-same, list-own}
 use Rattle.laws.proofs.First.{first-found}
-use Rattle.card.specs.Layout.{Meaning, layout1}
-use Rattle.card.specs.Rules.{before, cardSegment, startAt, cardBroken}
+use Rattle.card.specs.Layout.{Meaning, isFound}
+use Rattle.card.specs.Rules.{before, cardSegment, startAt, layoutFor}
 use Rattle.card.specs.declared.layout.Segment.{Segment}
-use Rattle.card_form.specs.Form.{cardBytes}
+use Rattle.card_form.specs.Form.{cardFor}
 use Rattle.card_form.specs.Rows.{rowsOf, rowAt, cardSegmentsIn, unequal}
-use Rattle.packed_cards.specs.Packed.{packedMeaning, packedGapAt, firstPackedGap, packedUnwritable}
+use Rattle.packed_cards.specs.Packed.{packedMeaning, packedGapAt, firstPackedGap, packedLayout, packedUnwritable}
 use Rattle.packed_call.specs.PackedCards.{packedCall}
 use Rattle.written.specs.Outcome.{writtenAs}
 
@@ -65,14 +65,17 @@ module _ (ss : List Segment) where
       let confidences : length (rowsOf ss .confidences) ≡ length ends = length-map ss (λ (s : Segment). s .confidence) ∙ sym as-many in
       rw (eq-eqb _ _ starts, eq-eqb _ _ keys, eq-eqb _ _ confidences)
 
--- the rows of a meaning that breaks no rule can be written, and give its card
-module _ (m : Meaning) (good : cardBroken layout1 m ≡ false) where
+-- the rows of a meaning that a card holds can be written, and give its card
+module _ (m : Meaning) (held : isFound (layoutFor m) ≡ true) where
   said : packedMeaning (m .header) (rowsOf (m .segments) .ends) (rowsOf (m .segments) .keys) (rowsOf (m .segments) .confidences) ≡ m
   said = ap (λ (ss : List Segment). record { header = m .header; segments = ss }) (segments-are (m .segments))
 
-  writable-rows : packedUnwritable layout1 (m .header) (rowsOf (m .segments)) ≡ false
-  unfolding packedUnwritable
-  writable-rows = rw (equal (m .segments), ap (cardBroken layout1) said ∙ good, le-ltb _ _ (gap-behind (m .segments)))
+  layout-is : packedLayout (m .header) (rowsOf (m .segments)) ≡ layoutFor m
+  unfolding packedLayout
+  layout-is = rw (equal (m .segments), le-ltb _ _ (gap-behind (m .segments))) (ap layoutFor said)
 
-  pub packed-again : (lent : List ℕ) → packedCall (m .header) (rowsOf (m .segments)) lent ≡ writtenAs false (cardBytes layout1 m) lent
-  packed-again lent = ap₂ (λ (b : Bool) (card : List ℕ). writtenAs b card lent) writable-rows (ap (cardBytes layout1) said)
+  writable-rows : packedUnwritable (m .header) (rowsOf (m .segments)) ≡ false
+  writable-rows = ap not (ap isFound layout-is ∙ held)
+
+  pub packed-again : (lent : List ℕ) → packedCall (m .header) (rowsOf (m .segments)) lent ≡ writtenAs false (cardFor m) lent
+  packed-again lent = ap₂ (λ (b : Bool) (card : List ℕ). writtenAs b card lent) writable-rows (ap cardFor said)

@@ -9,16 +9,12 @@ use lib.Seq.{take-at}
 use Rattle.laws.specs.Front.{front}
 use Rattle.laws.proofs.Front.{length-list}
 use Rattle.bits.specs.Bits.{AllBytes}
-use Rattle.card.specs.Layout.{layout1, layouts, numberedIn, layoutOr1}
-use Rattle.card.specs.Rules.{startAt, cardBroken}
-use Rattle.card.specs.declared.layout.Layout.{Layout}
+use Rattle.card.specs.Layout.{isFound}
+use Rattle.card.specs.Rules.{startAt}
 use Rattle.card.specs.declared.layout.Segment.{Segment}
-use Rattle.card.specs.declared.layout.Numbered.the-variants.{Known}
-use Rattle.card.proofs.Known.{found-in}
-use Rattle.card_form.specs.Form.{cardBytes}
 use Rattle.card_form.specs.Rows.{CardRows, rowsIn, rowsOf, holdingCard}
 use Rattle.card_judge.specs.Analysed.{meaningOf, packedAt}
-use Rattle.card_judge.proofs.Analyses.{writable}
+use Rattle.card_judge.proofs.Analyses.{written-in}
 use Rattle.card_call.specs.Cards.{cardOf}
 use Rattle.packed_call.specs.PackedCards.{packedCall}
 use Rattle.card_reader.specs.Reading.{Reading, refused, says, readOf}
@@ -29,10 +25,6 @@ use Rattle.card_inverse.specs.Calls.{firstRows, againCall, WrittenAgain,
 use Rattle.card_inverse.proofs.Inverse.{read-is-written, written-is-read}
 use Rattle.card_inverse.proofs.Numbers.{refusal-number}
 use Rattle.card_inverse.proofs.Again.{packed-again}
-
--- layout 1 is the only one that is known
-only-layout1 : (l : Layout) → numberedIn layouts (l .number) ≡ Known l → l ≡ layout1
-only-layout1 l e = ap layoutOr1 (sym e) ∙ found-in (λ (k : Layout). k ≡ layout1) refl (l .number)
 
 -- what was written from the front is what stands there first
 first-part : (xs m : List ℕ) (n : ℕ) → length xs ≡ n → take n (front xs m) ≡ xs
@@ -51,15 +43,14 @@ unfolding unread readAnswer
 again bytes bytewise rows (refused number) e none lent = let some : 20 ≤ number = refusal-number bytes (rowsIn rows) number e in absurd (omega (arith, some, none))
 again bytes bytewise rows (says m) e none lent =
     let card = read-is-written bytes bytewise (rowsIn rows) m e .0 in
-    let first = only-layout1 (card .layout) (card .known) in
     ap (λ (held : CardRows). packedCall (m .header) held lent) (first-rows (m .segments) rows)
-    ∙ packed-again m (ap (λ (l : Layout). cardBroken l m) (sym first) ∙ card .good) lent
-    ∙ ap (λ (content : List ℕ). writtenAs false content lent) (ap (λ (l : Layout). cardBytes l m) (sym first) ∙ sym (card .written))
+    ∙ packed-again m (card .held) lent
+    ∙ ap (λ (content : List ℕ). writtenAs false content lent) (sym (card .written))
 
 pub written-again : WrittenAgain
 written-again bytes bytewise rows none lent = again bytes bytewise rows (readOf bytes (rowsIn rows)) refl none lent
 
 pub analysed-is-read : AnalysedIsRead
 analysed-is-read a w rows room =
-    let card : IsCardOf (meaningOf layout1 a) (cardOf a) = record { layout = layout1; known = refl; good = writable layout1 a w .good; written = refl } in
-    written-is-read (cardOf a) rows (meaningOf layout1 a) card (rw (length-list (packedAt layout1 (a .ends) (a .keys) (a .confidences)) (length (a .ends))) room)
+    let card : IsCardOf (meaningOf a) (cardOf a) = record { held = ap isFound (written-in a w .1); written = refl } in
+    written-is-read (cardOf a) rows (meaningOf a) card (rw (length-list (packedAt (a .ends) (a .keys) (a .confidences)) (length (a .ends))) room)

@@ -1,6 +1,6 @@
 -- That reading is the inverse of writing, and what follows for the calls.
-pub mod OneCard
 pub mod Inverse
 pub mod Numbers
+pub mod OneCard
 mod Again
 pub mod Calls

@@ -1,26 +1,37 @@
--- One card has one meaning: equal bytes have equal bits, and what was put is read from them.
-use mathlib.Core.Path.{_≡_, sym, ap, _∙_}
+-- One card has one meaning: it is read as what was written; and one meaning one card: what is read was written from it.
+use mathlib.Core.Path.{_≡_, refl, sym, ap, _∙_}
+use mathlib.Core.Bool.{true, false}
 use mathlib.Core.List.{List}
-use Prim.Native.Nat.{ℕ}
-use Rattle.bits.specs.Bits.{bitsOfBytes}
-use Rattle.card.specs.Layout.{Meaning, LayoutFits}
-use Rattle.card.specs.declared.layout.Layout.{Layout}
-use Rattle.card.proofs.Fits.{CardFits, card-fits}
-use Rattle.card_form.specs.Form.{numberOn, cardBytes, meaningOn}
-use Rattle.card_form.proofs.ReadBack.{card-bits, number-read, meaning-read}
-use Rattle.card_judge.proofs.Analyses.{writable}
+use mathlib.Core.Logic.{_↔_}
+use Prim.Native.Nat.{ℕ, _+_}
+use native.Mathlib.Omega.{arith}
+use lib.ListN.{length}
+use Rattle.card.specs.Layout.{Meaning, isFound}
+use Rattle.card.specs.Rules.{layoutFor}
+use Rattle.card_form.specs.Form.{cardFor}
+use Rattle.card_judge.specs.Analysed.{Analysis, meaningOf, unwritable}
+use Rattle.card_judge.proofs.Analyses.{written-in}
+use Rattle.card_reader.specs.Reading.{says, readOf}
 use Rattle.card_inverse.specs.OneCard.{OneMeaningOneCard}
+use Rattle.card_inverse.proofs.Inverse.{read-is-written, written-is-read}
 
--- what is read from a card's bytes is what was written, and so is the layout's number
-told : (l : Layout) (m : Meaning) → LayoutFits l → CardFits l m → meaningOn l (bitsOfBytes (cardBytes l m)) ≡ m
-told l m layout fits = ap (meaningOn l) (card-bits l m) ∙ meaning-read l m layout fits _
+says-same : {m n : Meaning} → says m ≡ says n → m ≡ n
+says-same e = cc
 
-numbered : (l : Layout) (m : Meaning) → LayoutFits l → numberOn (bitsOfBytes (cardBytes l m)) ≡ l .number
-numbered l m layout = ap numberOn (card-bits l m) ∙ number-read l m _ (layout .number)
+-- with rows for the segments of both
+same-meaning : (m n : Meaning) → isFound (layoutFor m) ≡ true → isFound (layoutFor n) ≡ true → (cardFor m ≡ cardFor n) ↔ (m ≡ n)
+same-meaning m n kept held =
+    let rows = length (m .segments) + length (n .segments) in
+    let first : readOf (cardFor m) rows ≡ says m = written-is-read (cardFor m) rows m (record { held = kept; written = refl }) (omega arith) in
+    let second : readOf (cardFor n) rows ≡ says n = written-is-read (cardFor n) rows n (record { held = held; written = refl }) (omega arith) in
+    (λ same. says-same (sym first ∙ ap (λ (bytes : List ℕ). readOf bytes rows) same ∙ second), λ same. ap cardFor same)
+
+is-held : (a : Analysis) → unwritable a ≡ false → isFound (layoutFor (meaningOf a)) ≡ true
+is-held a w = ap isFound (written-in a w .1)
 
 pub one-meaning-one-card : OneMeaningOneCard
-one-meaning-one-card l fits = record {
-  one-meaning = λ m n gm gn same. sym (told l m fits (card-fits l m fits gm)) ∙ ap (λ (bytes : List ℕ). meaningOn l (bitsOfBytes bytes)) same ∙ told l n fits (card-fits l n fits gn);
-  one-number = λ k fk m n same. sym (numbered l m fits) ∙ ap (λ (bytes : List ℕ). numberOn (bitsOfBytes bytes)) same ∙ numbered k n fk;
-  of-written = λ a w. writable l a w .good;
+one-meaning-one-card = record {
+  meanings = same-meaning;
+  analyses = λ a b w x. same-meaning (meaningOf a) (meaningOf b) (is-held a w) (is-held b x);
+  readings = λ a b bytewise others rows more m read again. read-is-written a bytewise rows m read .0 .written ∙ sym (read-is-written b others more m again .0 .written);
 }

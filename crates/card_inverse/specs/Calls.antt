@@ -5,7 +5,6 @@ use mathlib.Core.List.{List}
 use Prim.Native.Nat.{ℕ, _≤_}
 use lib.ListN.{length, take}
 use Rattle.bits.specs.Bits.{AllBytes}
-use Rattle.card.specs.Layout.{layout1}
 use Rattle.card_form.specs.Rows.{CardRows}
 use Rattle.card_judge.specs.Analysed.{Analysis, meaningOf, unwritable}
 use Rattle.card_call.specs.Cards.{cardOf}
@@ -31,4 +30,4 @@ WrittenAgain = (bytes : List ℕ) → AllBytes bytes → (rows : CardRows) → r
 -- the card of an analysis that a card holds is read as that analysis in packed numbers, where there are rows for its segments
 abbrev pub AnalysedIsRead : Type 0
 AnalysedIsRead =
-    (a : Analysis) → unwritable layout1 a ≡ false → (rows : ℕ) → length (a .ends) ≤ rows → readOf (cardOf a) rows ≡ says (meaningOf layout1 a)
+    (a : Analysis) → unwritable a ≡ false → (rows : ℕ) → length (a .ends) ≤ rows → readOf (cardOf a) rows ≡ says (meaningOf a)

@@ -1,23 +1,19 @@
--- Reading is the exact inverse of writing, in every known layout. The statements; proofs/Inverse.antt and Numbers.antt prove them.
+-- Reading is the exact inverse of writing, over all layouts together. The statements; proofs/Inverse.antt and Numbers.antt prove them.
 use mathlib.Core.Path.{_≡_}
-use mathlib.Core.Bool.{false}
+use mathlib.Core.Bool.{true}
 use mathlib.Core.List.{List}
 use Prim.Native.Nat.{ℕ, _≤_}
 use lib.ListN.{length}
 use Rattle.bits.specs.Bits.{AllBytes}
-use Rattle.card.specs.Layout.{Meaning, layouts, numberedIn, mostSegments}
-use Rattle.card.specs.Rules.{cardBroken}
-use Rattle.card.specs.declared.layout.Layout.{Layout}
-use Rattle.card.specs.declared.layout.Numbered.the-variants.{Known}
-use Rattle.card_form.specs.Form.{cardBytes}
+use Rattle.card.specs.Layout.{Meaning, mostSegments, isFound}
+use Rattle.card.specs.Rules.{layoutFor}
+use Rattle.card_form.specs.Form.{cardFor}
 use Rattle.card_reader.specs.Reading.{refused, says, readOf}
 
--- bytes are the card, in a known layout, of a meaning that breaks no card rule
+-- bytes are the card of a meaning that one holds
 pub record IsCardOf (m : Meaning) (bytes : List ℕ) : Type 0 where
-  pub layout : Layout
-  pub known : numberedIn layouts (layout .number) ≡ Known layout
-  pub good : cardBroken layout m ≡ false
-  pub written : bytes ≡ cardBytes layout m
+  pub held : isFound (layoutFor m) ≡ true
+  pub written : bytes ≡ cardFor m
 
 -- bytes that are read as a meaning are its card, and there are rows for its segments
 abbrev pub ReadIsWritten : Type 0

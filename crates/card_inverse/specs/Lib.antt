@@ -1,3 +1,3 @@
-pub mod OneCard
 pub mod Inverse
+pub mod OneCard
 pub mod Calls

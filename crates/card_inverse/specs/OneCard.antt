@@ -1,18 +1,19 @@
--- One meaning has one card. The statement; proofs/OneCard.antt proves it.
+-- One meaning has one card, over all layouts together. The statement; proofs/OneCard.antt proves it.
 use mathlib.Core.Path.{_≡_}
-use mathlib.Core.Bool.{false}
-use Rattle.card.specs.Layout.{Meaning, LayoutFits}
-use Rattle.card.specs.Rules.{cardBroken}
-use Rattle.card.specs.declared.layout.Layout.{Layout}
+use mathlib.Core.Bool.{true, false}
+use mathlib.Core.List.{List}
+use mathlib.Core.Logic.{_↔_}
+use Prim.Native.Nat.{ℕ}
+use Rattle.bits.specs.Bits.{AllBytes}
+use Rattle.card.specs.Layout.{Meaning, isFound}
+use Rattle.card.specs.Rules.{layoutFor}
+use Rattle.card_form.specs.Form.{cardFor}
 use Rattle.card_judge.specs.Analysed.{Analysis, meaningOf, unwritable}
-use Rattle.card_form.specs.Form.{cardBytes}
+use Rattle.card_call.specs.Cards.{cardOf}
+use Rattle.card_reader.specs.Reading.{says, readOf}
 
--- what a card of a layout tells by its bytes alone: of meanings that break no card rule one, and of layouts the number; an analysis that is written has such a meaning
-pub record CardTells (l : Layout) : Type 0 where
-  pub one-meaning : (m n : Meaning) → cardBroken l m ≡ false → cardBroken l n ≡ false → cardBytes l m ≡ cardBytes l n → m ≡ n
-  pub one-number : (k : Layout) → LayoutFits k → (m n : Meaning) → cardBytes l m ≡ cardBytes k n → l .number ≡ k .number
-  pub of-written : (a : Analysis) → unwritable l a ≡ false → cardBroken l (meaningOf l a) ≡ false
-
--- one meaning has one card, in every layout whose limits fit its widths
-abbrev pub OneMeaningOneCard : Type 0
-OneMeaningOneCard = (l : Layout) → LayoutFits l → CardTells l
+-- whichever layouts they are written in: meanings that a card holds have equal cards exactly when they are equal; two analyses that are written have equal bytes exactly when their packed numbers are equal; and bytes that are read as one meaning are equal
+pub record OneMeaningOneCard : Type 0 where
+  pub meanings : (m n : Meaning) → isFound (layoutFor m) ≡ true → isFound (layoutFor n) ≡ true → (cardFor m ≡ cardFor n) ↔ (m ≡ n)
+  pub analyses : (a b : Analysis) → unwritable a ≡ false → unwritable b ≡ false → (cardOf a ≡ cardOf b) ↔ (meaningOf a ≡ meaningOf b)
+  pub readings : (a b : List ℕ) → AllBytes a → AllBytes b → (rows others : ℕ) (m : Meaning) → readOf a rows ≡ says m → readOf b others ≡ says m → a ≡ b

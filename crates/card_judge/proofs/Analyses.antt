@@ -2,16 +2,20 @@
 use mathlib.Core.Path.{_≡_}
 use mathlib.Core.Bool.{false}
 use lib.ListN.{length}
+use borrow.Author.Tests.{not-false}
+use Rattle.card.specs.Layout.{isFound}
+use Rattle.card.specs.Rules.{layoutFor}
 use Rattle.card.specs.declared.layout.Layout.{Layout}
-use Rattle.card_judge.specs.Analysed.{Analysis, packedHeader, packedAt, firstGap, unwritable}
+use Rattle.card.specs.declared.layout.FoundLayout.the-variants.{Found}
+use Rattle.card.proofs.Chosen.{some-layout}
+use Rattle.card_judge.specs.Analysed.{Analysis, packedHeader, packedAt, meaningOf, firstGap, layoutOf, unwritable}
 use Rattle.card_form.proofs.Broken.{Asked, Held, held}
 
-abbrev pub asked : Layout → Analysis → Asked
-asked l a =
+abbrev pub asked : Analysis → Asked
+asked a =
     record {
-      layout = l;
       header = packedHeader (a .overall);
-      at = packedAt l (a .ends) (a .keys) (a .confidences);
+      at = packedAt (a .ends) (a .keys) (a .confidences);
       count = length (a .ends);
       starts = length (a .starts);
       keys = length (a .keys);
@@ -19,6 +23,10 @@ asked l a =
       gap = firstGap (a .starts) (a .ends);
     }
 
-pub writable : (l : Layout) (a : Analysis) → unwritable l a ≡ false → Held (asked l a)
-unfolding unwritable
-writable l a w = held (asked l a) w
+pub writable : (l : Layout) (a : Analysis) → layoutOf a ≡ Found l → Held (asked a) l
+unfolding layoutOf
+writable l a w = held (asked a) w
+
+-- one that is written has a layout
+pub written-in : (a : Analysis) → unwritable a ≡ false → (l : Layout) × (layoutFor (meaningOf a) ≡ Found l)
+written-in a w = let (l, found) = some-layout (layoutOf a) (not-false (isFound (layoutOf a)) w) in (l, writable l a found .kept)

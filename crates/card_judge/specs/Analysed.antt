@@ -1,20 +1,20 @@
--- The analysis that a card is written from, in seconds and parts of one, and its meaning in packed numbers, and whether a card holds it. Definitions only.
+-- The analysis that a card is written from, in seconds and parts of one, its meaning in packed numbers, and the layout of its card. Definitions only.
 use Prim.Native.Nat.{ℕ, _+_}
-use mathlib.Core.Bool.{Bool, not}
-use mathlib.Core.List.{List, [], _∷_}
+use mathlib.Core.Bool.{Bool, not, _||_, cond}
+use mathlib.Core.List.{List}
 use lib.Dec.{ltb}
 use lib.ListN.{length, getD}
 use lib.Ieee.{Float, nan, eq}
 use Rattle.laws.specs.First.{first}
 use Rattle.laws.specs.Front.{list}
-use Rattle.laws.specs.Table.{anyOf}
 use Rattle.laws.specs.Values.{plusZero}
 use Rattle.packed.specs.Packing.{numberOr, thousandthsOf, millisecondsOf}
-use Rattle.card.specs.Layout.{Meaning}
-use Rattle.card.specs.Rules.{before, cardBroken}
+use Rattle.card.specs.Layout.{Meaning, lastEnd, isFound}
+use Rattle.card.specs.Rules.{before, layoutFor}
 use Rattle.card_form.specs.Rows.{unequal}
 use Rattle.card_judge.specs.declared.analysed.Overall.{Overall}
-use Rattle.card.specs.declared.layout.Layout.{Layout}
+use Rattle.card.specs.declared.layout.FoundLayout.{FoundLayout}
+use Rattle.card.specs.declared.layout.FoundLayout.the-variants.{Missing}
 use Rattle.card.specs.declared.layout.Header.{Header}
 use Rattle.card.specs.declared.layout.Segment.{Segment}
 
@@ -30,14 +30,14 @@ pub record Analysis : Type 0 where
 abbrev pub analysis : Overall → List Float → List Float → List ℕ → List Float → Analysis
 analysis overall starts ends keys confidences = record { overall = overall; starts = starts; ends = ends; keys = keys; confidences = confidences }
 
--- ---- packed numbers: what can't be packed counts as the number above the limit, which breaks the rules
+-- ---- packed numbers, the same in every layout: what can't be packed counts as the number above the limit, which breaks the rules of each
 -- thousandths of a float, rounded down
 abbrev pub packedPart : Float → ℕ
 packedPart x = numberOr 1001 (thousandthsOf x)
 
 -- milliseconds of a float, rounded down
-abbrev pub packedEnd : Layout → Float → ℕ
-packedEnd l x = numberOr (l .last + 1) (millisecondsOf x (l .last))
+abbrev pub packedEnd : Float → ℕ
+packedEnd x = numberOr (lastEnd + 1) (millisecondsOf x lastEnd)
 
 -- the header
 abbrev pub packedHeader : Overall → Header
@@ -45,26 +45,26 @@ packedHeader o =
     record { key = o .key; dsp = o .dsp; alternate = o .alternate; coverage = packedPart (o .coverage); confidence = packedPart (o .confidence) }
 
 -- one segment
-abbrev pub packedSegment : Layout → Float → ℕ → Float → Segment
-packedSegment l end key confidence = record { end = packedEnd l end; key = key; confidence = packedPart confidence }
+abbrev pub packedSegment : Float → ℕ → Float → Segment
+packedSegment end key confidence = record { end = packedEnd end; key = key; confidence = packedPart confidence }
 
 -- segment i of three lists
-abbrev pub packedAt : Layout → List Float → List ℕ → List Float → ℕ → Segment
-packedAt l ends keys confidences i = packedSegment l (getD ends i nan) (getD keys i 0) (getD confidences i nan)
+abbrev pub packedAt : List Float → List ℕ → List Float → ℕ → Segment
+packedAt ends keys confidences i = packedSegment (getD ends i nan) (getD keys i 0) (getD confidences i nan)
 
 -- as many segments as there are ends
-abbrev pub packedSegments : Layout → List Float → List ℕ → List Float → List Segment
-packedSegments l ends keys confidences = list (packedAt l ends keys confidences) (length ends)
+abbrev pub packedSegments : List Float → List ℕ → List Float → List Segment
+packedSegments ends keys confidences = list (packedAt ends keys confidences) (length ends)
 
 -- the parts of an analysis in packed numbers
-abbrev pub meaning : Layout → Overall → List Float → List ℕ → List Float → Meaning
-meaning l o ends keys confidences = record { header = packedHeader o; segments = packedSegments l ends keys confidences }
+abbrev pub meaning : Overall → List Float → List ℕ → List Float → Meaning
+meaning o ends keys confidences = record { header = packedHeader o; segments = packedSegments ends keys confidences }
 
 -- an analysis in packed numbers
-abbrev pub meaningOf : Layout → Analysis → Meaning
-meaningOf l a = meaning l (a .overall) (a .ends) (a .keys) (a .confidences)
+abbrev pub meaningOf : Analysis → Meaning
+meaningOf a = meaning (a .overall) (a .ends) (a .keys) (a .confidences)
 
--- ---- the rules
+-- ---- the layout
 -- segment i does not start at the end before it, or, the first, not at 0
 abbrev pub gapAt : List Float → List Float → ℕ → Bool
 gapAt starts ends i = not (eq (getD starts i nan) (before plusZero (λ (k : ℕ). getD ends k nan) i))
@@ -73,11 +73,16 @@ gapAt starts ends i = not (eq (getD starts i nan) (before plusZero (λ (k : ℕ)
 abbrev pub firstGap : List Float → List Float → ℕ
 firstGap starts ends = first (gapAt starts ends) (length ends) 0
 
--- number 11: an analysis that no card of this layout holds
-unfoldable pub unwritable : Layout → Analysis → Bool
-unwritable l a =
-    anyOf
-    (unequal (length (a .starts)) (length (a .ends)) (length (a .keys)) (length (a .confidences))
-    ∷ cardBroken l (meaningOf l a)
-    ∷ ltb (firstGap (a .starts) (a .ends)) (length (a .ends))
-    ∷ [])
+-- its lists are not equally long, or a segment does not start where it has to
+abbrev pub apart : Analysis → Bool
+apart a =
+    unequal (length (a .starts)) (length (a .ends)) (length (a .keys)) (length (a .confidences))
+    || ltb (firstGap (a .starts) (a .ends)) (length (a .ends))
+
+-- the layout that it is written in
+unfoldable pub layoutOf : Analysis → FoundLayout
+layoutOf a = cond (apart a) Missing (layoutFor (meaningOf a))
+
+-- number 11: an analysis that no card holds
+abbrev pub unwritable : Analysis → Bool
+unwritable a = not (isFound (layoutOf a))

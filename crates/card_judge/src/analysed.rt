@@ -1,12 +1,15 @@
-// An analysis in seconds and parts of one: its packed numbers, and whether a card can hold it.
+// An analysis in seconds and parts of one: its packed numbers, and the layout of its card.
 ghost use mathlib.Core.Path.{_≡_};
 ghost use lib.ListN.{length};
-ghost use Rattle.card.specs.Layout.{LayoutFits};
-ghost use Rattle.card.specs.Rules.{firstBroken};
-ghost use Rattle.card_judge.specs.Analysed.{packedPart, packedHeader, packedSegment, packedSegments, analysis, firstGap, unwritable};
+ghost use Rattle.card.specs.Rules.{firstBroken, cardBroken, layoutFor};
+ghost use Rattle.card_judge.specs.Analysed.{packedPart, packedHeader, packedSegment, packedSegments, meaning, analysis, firstGap, layoutOf};
+use card::layout::FoundLayout;
 use card::layout::Header;
+use card::layout::LAST_END;
 use card::layout::Layout;
 use card::layout::Segment;
+use card::layout::layout_1;
+use card::layout::layout_2;
 use card::rules::header_broken;
 use card::rules::segment_broken;
 use card_form::unequal_lengths;
@@ -44,13 +47,12 @@ pub fn packed_header(o: Overall) -> Header
 }
 
 // A segment's packed numbers.
-pub fn packed_segment(l: Layout, end: f64, key: u8, confidence: f32) -> Segment
-    requires { ⌜ LayoutFits l ⌝ }
-    ensures { λ r. ⌜ r ≡ packedSegment l end key confidence ⌝ }
+pub fn packed_segment(end: f64, key: u8, confidence: f32) -> Segment
+    ensures { λ r. ⌜ r ≡ packedSegment end key confidence ⌝ }
 {
-    let ends = milliseconds(end, l.last);
+    let ends = milliseconds(end, LAST_END);
     Segment {
-        end: number_or(l.last + 1, ends),
+        end: number_or(LAST_END + 1, ends),
         key: key as u64,
         confidence: packed_part(confidence),
     }
@@ -76,10 +78,10 @@ fn first_gap(starts: &[f64], ends: &[f64]) -> usize
     }
 }
 
-// The first segment that breaks a rule, or their count.
+// The first segment that breaks a rule of the layout, or their count.
 fn first_broken(l: Layout, ends: &[f64], keys: &[u8], confidences: &[f32]) -> usize
-    requires { ⌜ LayoutFits l × (length (now keys) ≡ length (now ends)) × (length (now confidences) ≡ length (now ends)) ⌝ }
-    ensures { λ r. ⌜ r ≡ firstBroken l (packedSegments l (now (ends .entry)) (now (keys .entry)) (now (confidences .entry))) ⌝ }
+    requires { ⌜ (length (now keys) ≡ length (now ends)) × (length (now confidences) ≡ length (now ends)) ⌝ }
+    ensures { λ r. ⌜ r ≡ firstBroken l (packedSegments (now (ends .entry)) (now (keys .entry)) (now (confidences .entry))) ⌝ }
 {
     let count = ends.len();
     let mut previous = 0;
@@ -88,7 +90,7 @@ fn first_broken(l: Layout, ends: &[f64], keys: &[u8], confidences: &[f32]) -> us
         if i >= count {
             break count;
         }
-        let s = packed_segment(l, ends[i], keys[i], confidences[i]);
+        let s = packed_segment(ends[i], keys[i], confidences[i]);
         if segment_broken(l, count == 1, previous, s) {
             break i;
         }
@@ -97,27 +99,50 @@ fn first_broken(l: Layout, ends: &[f64], keys: &[u8], confidences: &[f32]) -> us
     }
 }
 
-// Whether no card of this layout holds the analysis.
-pub fn is_unwritable(
-    l: Layout,
+// Whether an analysis breaks a rule of the layout.
+fn is_broken(l: Layout, o: Overall, ends: &[f64], keys: &[u8], confidences: &[f32]) -> bool
+    requires { ⌜ (length (now keys) ≡ length (now ends)) × (length (now confidences) ≡ length (now ends)) ⌝ }
+    ensures { λ r. ⌜ r ≡ cardBroken l (meaning o (now (ends .entry)) (now (keys .entry)) (now (confidences .entry))) ⌝ }
+{
+    let count = ends.len();
+    if header_broken(l, packed_header(o), count) {
+        return true;
+    }
+    first_broken(l, ends, keys, confidences) < count
+}
+
+// The first layout of which an analysis breaks no rule.
+fn layout_for(o: Overall, ends: &[f64], keys: &[u8], confidences: &[f32]) -> FoundLayout
+    requires { ⌜ (length (now keys) ≡ length (now ends)) × (length (now confidences) ≡ length (now ends)) ⌝ }
+    ensures { λ r. ⌜ r ≡ layoutFor (meaning o (now (ends .entry)) (now (keys .entry)) (now (confidences .entry))) ⌝ }
+{
+    let first = layout_1();
+    let second = layout_2();
+    if !is_broken(first, o, ends, keys, confidences) {
+        return FoundLayout::Found(first);
+    }
+    if !is_broken(second, o, ends, keys, confidences) {
+        return FoundLayout::Found(second);
+    }
+    FoundLayout::Missing
+}
+
+// The layout that an analysis is written in.
+pub fn layout_of(
     o: Overall,
     starts: &[f64],
     ends: &[f64],
     keys: &[u8],
     confidences: &[f32],
-) -> bool
-    requires { ⌜ LayoutFits l ⌝ }
-    ensures { λ r. ⌜ r ≡ unwritable l (analysis o (now (starts .entry)) (now (ends .entry)) (now (keys .entry)) (now (confidences .entry))) ⌝ }
+) -> FoundLayout
+    ensures { λ r. ⌜ r ≡ layoutOf (analysis o (now (starts .entry)) (now (ends .entry)) (now (keys .entry)) (now (confidences .entry))) ⌝ }
 {
     let count = ends.len();
     if unequal_lengths(starts.len(), count, keys.len(), confidences.len()) {
-        return true;
+        return FoundLayout::Missing;
     }
-    if header_broken(l, packed_header(o), count) {
-        return true;
+    if first_gap(starts, ends) < count {
+        return FoundLayout::Missing;
     }
-    if first_broken(l, ends, keys, confidences) < count {
-        return true;
-    }
-    first_gap(starts, ends) < count
+    layout_for(o, ends, keys, confidences)
 }

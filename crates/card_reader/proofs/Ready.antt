@@ -11,11 +11,11 @@ use Rattle.laws.specs.Front.{list}
 use Rattle.laws.proofs.Front.{length-list, getD-list}
 use Rattle.laws.proofs.Table.{fell-through, left-failed, right-failed}
 use Rattle.bits.specs.Bits.{bitsOfBytes}
-use Rattle.card.specs.Layout.{isKnown, layoutOr1, HeaderFits, SegmentFits}
-use Rattle.card.specs.Rules.{cardBroken}
+use Rattle.card.specs.Layout.{isFound, layoutOr1, HeaderFits, SegmentFits}
+use Rattle.card.specs.Rules.{cardBroken, needless}
 use Rattle.card.specs.declared.layout.Layout.{Layout}
-use Rattle.card.specs.declared.layout.Numbered.{Numbered}
-use Rattle.card.specs.declared.layout.Numbered.the-variants.{Known, Unknown}
+use Rattle.card.specs.declared.layout.FoundLayout.{FoundLayout}
+use Rattle.card.specs.declared.layout.FoundLayout.the-variants.{Found, Missing}
 use Rattle.card.proofs.Fits.{CardFits, card-fits}
 use Rattle.card.proofs.Known.{Sound, found-sound}
 use Rattle.card_form.specs.Form.{segmentPlace, cardSize, numberOn, headerOn, countOn, segmentOn, meaningOn, fillerSet}
@@ -25,12 +25,13 @@ use Rattle.card_reader.specs.declared.judge.CardJudged.the-variants.{Ref
 
 -- what is known of a card that is read under a layout
 pub record Ready (bytes : List ℕ) (rows : ℕ) (l : Layout) : Type 0 where
-  pub known : layoutOn (bitsOfBytes bytes) ≡ Known l
+  pub known : layoutOn (bitsOfBytes bytes) ≡ Found l
   pub sound : Sound l
   pub long : 7 ≤ length bytes
   pub whole : length bytes ≡ cardSize l (countOn l (bitsOfBytes bytes))
   pub good : cardBroken l (meaningOn l (bitsOfBytes bytes)) ≡ false
   pub clear : fillerSet l (bitsOfBytes bytes) ≡ false
+  pub needed : needless l (meaningOn l (bitsOfBytes bytes)) ≡ false
   pub room : countOn l (bitsOfBytes bytes) ≤ rows
 
 -- a card is not refused
@@ -39,9 +40,9 @@ isReadable (Refused number) = false
 isReadable (Readable l) = true
 
 -- a layout that was found is the one that was asked for
-found-known : {found : Numbered} {l : Layout} → not (isKnown found) ≡ false → layoutOr1 found ≡ l → found ≡ Known l
-found-known {found = Known k} t e = ap Known e
-found-known {found = Unknown} t e = absurd (no-more t)
+found-known : {found : FoundLayout} {l : Layout} → not (isFound found) ≡ false → layoutOr1 found ≡ l → found ≡ Found l
+found-known {found = Found k} t e = ap Found e
+found-known {found = Missing} t e = absurd (no-more t)
   where
     no-more : true ≡ false → ⊥
     no-more q = let z : _≡_ {A = ℕ} 0 1 = cc in omega arith
@@ -65,10 +66,11 @@ ready bytes rows l e =
       known = found-known (fell .failed 2) same;
       sound = subst Sound same (found-sound (numberOn bits));
       long = ltb-false (length bytes) 7 (fell .failed 0);
-      whole = subst (λ (k : Layout). length bytes ≡ cardSize k (countOn k bits)) same (eqb-true _ _ (known-length (isKnown (layoutOn bits)) (eqb (length bytes) (cardSize m (countOn m bits))) (fell .failed 1) (fell .failed 2)));
+      whole = subst (λ (k : Layout). length bytes ≡ cardSize k (countOn k bits)) same (eqb-true _ _ (known-length (isFound (layoutOn bits)) (eqb (length bytes) (cardSize m (countOn m bits))) (fell .failed 1) (fell .failed 2)));
       good = subst (λ (k : Layout). cardBroken k (meaningOn k bits) ≡ false) same (left-failed broken filler (fell .failed 3));
       clear = subst (λ (k : Layout). fillerSet k bits ≡ false) same (right-failed broken filler (fell .failed 3));
-      room = subst (λ (k : Layout). countOn k bits ≤ rows) same (ltb-false rows (countOn m bits) (fell .failed 4));
+      needed = subst (λ (k : Layout). needless k (meaningOn k bits) ≡ false) same (fell .failed 4);
+      room = subst (λ (k : Layout). countOn k bits ≤ rows) same (ltb-false rows (countOn m bits) (fell .failed 5));
     }
 
 -- ---- its numbers are small

@@ -6,25 +6,26 @@ use lib.Dec.{eqb, ltb}
 use lib.ListN.{length}
 use Rattle.laws.specs.Table.{Check, _gives_, firstOf}
 use Rattle.bits.specs.Bits.{bitsOfBytes}
-use Rattle.card.specs.Layout.{Meaning, layouts, numberedIn, isKnown, layoutOr1}
-use Rattle.card.specs.Rules.{cardBroken}
+use Rattle.card.specs.Layout.{Meaning, layouts, numberedIn, isFound, layoutOr1}
+use Rattle.card.specs.Rules.{cardBroken, needless}
 use Rattle.card.specs.declared.layout.Layout.{Layout}
-use Rattle.card.specs.declared.layout.Numbered.{Numbered}
+use Rattle.card.specs.declared.layout.FoundLayout.{FoundLayout}
 use Rattle.card_form.specs.Form.{cardSize, numberOn, countOn, meaningOn, fillerSet}
 use Rattle.card_reader.specs.declared.judge.CardJudged.{CardJudged}
 use Rattle.card_reader.specs.declared.judge.CardJudged.the-variants.{Refused, Readable}
 
 -- the layout that a card names
-abbrev pub layoutOn : List ℕ → Numbered
+abbrev pub layoutOn : List ℕ → FoundLayout
 layoutOn bits = numberedIn layouts (numberOn bits)
 
 -- the table from the top, for bytes with these bits, and so many rows for segments
 abbrev pub readingTable : List ℕ → List ℕ → Layout → ℕ → List (Check CardJudged)
 readingTable bytes bits l rows =
     (ltb (length bytes) 7 gives Refused 20)
-    ∷ ((isKnown (layoutOn bits) && not (eqb (length bytes) (cardSize l (countOn l bits)))) gives Refused 20)
-    ∷ (not (isKnown (layoutOn bits)) gives Refused 21)
+    ∷ ((isFound (layoutOn bits) && not (eqb (length bytes) (cardSize l (countOn l bits)))) gives Refused 20)
+    ∷ (not (isFound (layoutOn bits)) gives Refused 21)
     ∷ ((cardBroken l (meaningOn l bits) || fillerSet l bits) gives Refused 22)
+    ∷ (needless l (meaningOn l bits) gives Refused 23)
     ∷ (ltb rows (countOn l bits) gives Refused 24)
     ∷ []
 

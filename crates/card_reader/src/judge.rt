@@ -5,7 +5,7 @@ ghost use lib.ListN.{length};
 ghost use Rattle.laws.specs.Front.{list};
 ghost use Rattle.bits.specs.Bits.{bitsOfBytes};
 ghost use Rattle.card.specs.Layout.{LayoutFits};
-ghost use Rattle.card.specs.Rules.{firstBroken, cardBroken};
+ghost use Rattle.card.specs.Rules.{firstBroken, cardBroken, needless};
 ghost use Rattle.card_form.specs.Form.{segmentPlace, countOn, segmentOn, meaningOn};
 ghost use Rattle.card_reader.specs.Reading.{judgedOf};
 use crate::on_card::count_on;
@@ -14,7 +14,8 @@ use crate::on_card::header_on;
 use crate::on_card::number_on;
 use crate::on_card::segment_on;
 use card::layout::Layout;
-use card::layout::is_known;
+use card::layout::is_found;
+use card::layout::layout_1;
 use card::layout::layout_numbered;
 use card::layout::layout_or_1;
 use card::rules::header_broken;
@@ -27,10 +28,10 @@ pub enum CardJudged {
     Readable(Layout),
 }
 
-// The first of `count` segments that breaks a rule, or their count.
-fn first_broken(bytes: &[u8], l: Layout, count: usize) -> usize
+// The first of `count` segments that breaks a rule of the layout `rules`, or their count.
+fn first_broken(bytes: &[u8], l: Layout, rules: Layout, count: usize) -> usize
     requires { ⌜ LayoutFits l × (count < 2 ^ 32) × (segmentPlace l count ≤ length (now bytes) * 8) ⌝ }
-    ensures { λ r. ⌜ r ≡ firstBroken l (list (segmentOn l (bitsOfBytes (now (bytes .entry)))) count) ⌝ }
+    ensures { λ r. ⌜ r ≡ firstBroken rules (list (segmentOn l (bitsOfBytes (now (bytes .entry)))) count) ⌝ }
 {
     let mut previous = 0;
     let mut i = 0;
@@ -39,7 +40,7 @@ fn first_broken(bytes: &[u8], l: Layout, count: usize) -> usize
             break count;
         }
         let s = segment_on(bytes, l, i);
-        if segment_broken(l, count == 1, previous, s) {
+        if segment_broken(rules, count == 1, previous, s) {
             break i;
         }
         previous = s.end;
@@ -47,14 +48,26 @@ fn first_broken(bytes: &[u8], l: Layout, count: usize) -> usize
     }
 }
 
-// Whether what a card of `count` segments says breaks a card rule.
-fn is_broken(bytes: &[u8], l: Layout, count: usize) -> bool
+// Whether what a card of `count` segments says breaks a rule of the layout `rules`.
+fn is_broken(bytes: &[u8], l: Layout, rules: Layout, count: usize) -> bool
     requires { ⌜ LayoutFits l × (count < 2 ^ 32) × (count ≡ countOn l (bitsOfBytes (now bytes))) × (segmentPlace l count ≤ length (now bytes) * 8) ⌝ }
-    ensures { λ r. ⌜ r ≡ cardBroken l (meaningOn l (bitsOfBytes (now (bytes .entry)))) ⌝ }
+    ensures { λ r. ⌜ r ≡ cardBroken rules (meaningOn l (bitsOfBytes (now (bytes .entry)))) ⌝ }
 {
-    let header = header_on(bytes, l);
-    let first = first_broken(bytes, l, count);
-    header_broken(l, header, count) | (first < count)
+    if header_broken(rules, header_on(bytes, l), count) {
+        return true;
+    }
+    first_broken(bytes, l, rules, count) < count
+}
+
+// Whether a card of another layout than 1 says what layout 1 holds.
+fn is_needless(bytes: &[u8], l: Layout, count: usize) -> bool
+    requires { ⌜ LayoutFits l × (count < 2 ^ 32) × (count ≡ countOn l (bitsOfBytes (now bytes))) × (segmentPlace l count ≤ length (now bytes) * 8) ⌝ }
+    ensures { λ r. ⌜ r ≡ needless l (meaningOn l (bitsOfBytes (now (bytes .entry)))) ⌝ }
+{
+    if l.number == 1 {
+        return false;
+    }
+    !is_broken(bytes, l, layout_1(), count)
 }
 
 // What the table says of bytes, with so many rows for segments.
@@ -62,7 +75,7 @@ pub fn judge_card(bytes: &[u8], rows: usize) -> CardJudged
     ensures { λ r. ⌜ r ≡ judgedOf (now (bytes .entry)) rows ⌝ }
 {
     let found = layout_numbered(number_on(bytes));
-    let known = is_known(found);
+    let known = is_found(found);
     let l = layout_or_1(found);
     let short = bytes.len() < 7;
     if short {
@@ -75,8 +88,11 @@ pub fn judge_card(bytes: &[u8], rows: usize) -> CardJudged
     if !(bytes.len() == card_size(l, count)) {
         return CardJudged::Refused(20);
     }
-    if is_broken(bytes, l, count) | filler_set(bytes, l, count) {
+    if is_broken(bytes, l, l, count) | filler_set(bytes, l, count) {
         return CardJudged::Refused(22);
+    }
+    if is_needless(bytes, l, count) {
+        return CardJudged::Refused(23);
     }
     if rows < count {
         return CardJudged::Refused(24);

@@ -24,13 +24,13 @@ fn put_segments(
     keys: &[u8],
     confidences: &[f32],
 ) -> Pen
-    requires { ⌜ CanPutSegments (now bytes) first l (packedAt l (now ends) (now keys) (now confidences)) (length (now ends)) × (length (now keys) ≡ length (now ends)) × (length (now confidences) ≡ length (now ends)) ⌝ }
-    ensures { λ r. ⌜ BitsPut (now (bytes .entry)) (now (bytes .exit)) first r (segmentsBits l (packedSegments l (now (ends .entry)) (now (keys .entry)) (now (confidences .entry)))) ⌝ }
+    requires { ⌜ CanPutSegments (now bytes) first l (packedAt (now ends) (now keys) (now confidences)) (length (now ends)) × (length (now keys) ≡ length (now ends)) × (length (now confidences) ≡ length (now ends)) ⌝ }
+    ensures { λ r. ⌜ BitsPut (now (bytes .entry)) (now (bytes .exit)) first r (segmentsBits l (packedSegments (now (ends .entry)) (now (keys .entry)) (now (confidences .entry)))) ⌝ }
 {
     let mut pen = first;
     let mut i = 0;
     while i < ends.len() {
-        let s = packed_segment(l, ends[i], keys[i], confidences[i]);
+        let s = packed_segment(ends[i], keys[i], confidences[i]);
         pen = put_segment(bytes, pen, l, s);
         i += 1;
     }
@@ -46,8 +46,8 @@ pub fn write_card(
     keys: &[u8],
     confidences: &[f32],
 ) -> usize
-    requires { ⌜ CanWrite (now bytes) l (packedHeader o) (packedAt l (now ends) (now keys) (now confidences)) (length (now ends)) × (length (now keys) ≡ length (now ends)) × (length (now confidences) ≡ length (now ends)) ⌝ }
-    ensures { λ r. ⌜ (r ≡ cardSize l (length (now (ends .entry)))) × (now (bytes .exit) ≡ front (cardBytes l (meaning l o (now (ends .entry)) (now (keys .entry)) (now (confidences .entry)))) (now (bytes .entry))) ⌝ }
+    requires { ⌜ CanWrite (now bytes) l (packedHeader o) (packedAt (now ends) (now keys) (now confidences)) (length (now ends)) × (length (now keys) ≡ length (now ends)) × (length (now confidences) ≡ length (now ends)) ⌝ }
+    ensures { λ r. ⌜ (r ≡ cardSize l (length (now (ends .entry)))) × (now (bytes .exit) ≡ front (cardBytes l (meaning o (now (ends .entry)) (now (keys .entry)) (now (confidences .entry)))) (now (bytes .entry))) ⌝ }
 {
     let header = packed_header(o);
     let headed = start_card(bytes, l, header, ends.len());

@@ -3,4 +3,4 @@ use Prim.Native.Nat.{ℕ}
 
 -- the number of the C interface: it grows whenever a struct, a parameter or a meaning changes
 abbrev pub interfaceNumber : ℕ
-interfaceNumber = 4
+interfaceNumber = 5

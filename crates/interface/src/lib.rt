@@ -6,5 +6,5 @@ ghost use Rattle.interface.specs.Interface.{interfaceNumber};
 pub fn interface_number() -> u32
     ensures { λ r. ⌜ r ≡ interfaceNumber ⌝ }
 {
-    4
+    5
 }

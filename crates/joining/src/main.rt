@@ -66,8 +66,8 @@ fn part(start: f64, end: f64, number: u8, windows: u32) -> Segment
 
 // Prints a time in milliseconds.
 fn print_time(time: f64) {
-    let packed = milliseconds(time, 14400000);
-    io::print_decimal(STDOUT_FILENO, number_or(14400001, packed));
+    let packed = milliseconds(time, 86400000);
+    io::print_decimal(STDOUT_FILENO, number_or(86400001, packed));
 }
 
 // Prints a segment: from when to when, its key's number, and how many windows it rests on.

@@ -20,6 +20,13 @@ use card_reader::on_card::count_on;
 use card_reader::on_card::header_on;
 use card_reader::on_card::segment_on;
 
+// Zeros, as many as the longest listing has bytes.
+pub fn listing_room() -> [u8; 208_854]
+    ensures { λ r. ⌜ longestListing ≡ length r ⌝ }
+{
+    [0; 208_854]
+}
+
 // A line for each of the `count` segments of a card.
 fn write_lines(card: &[u8], l: Layout, count: usize, bytes: &mut [u8]) -> usize
     requires { ⌜ CanList (now card) l × (count ≡ countOn l (bitsOfBytes (now card))) × (count * longestLine ≤ length (now bytes)) ⌝ }

@@ -1,9 +1,8 @@
 -- What `ulyptesh_write_packed_card` promises, as one definition of what it is given. Definitions only.
 use mathlib.Core.List.{List}
 use Prim.Native.Nat.{ℕ}
-use Rattle.card.specs.Layout.{layout1}
 use Rattle.card.specs.declared.layout.Header.{Header}
-use Rattle.card_form.specs.Form.{cardBytes}
+use Rattle.card_form.specs.Form.{cardFor}
 use Rattle.card_form.specs.Rows.{CardRows}
 use Rattle.packed_cards.specs.Packed.{packedMeaning, packedUnwritable}
 use Rattle.written.specs.Outcome.{BytesOutcome, writtenAs}
@@ -14,8 +13,8 @@ headerFrom key dsp alternate coverage confidence = record { key = key; dsp = dsp
 
 -- the card of packed numbers
 abbrev pub packedCard : Header → CardRows → List ℕ
-packedCard h rows = cardBytes layout1 (packedMeaning h (rows .ends) (rows .keys) (rows .confidences))
+packedCard h rows = cardFor (packedMeaning h (rows .ends) (rows .keys) (rows .confidences))
 
 -- the card, or 11 for packed numbers that no card holds
 abbrev pub packedCall : Header → CardRows → List ℕ → BytesOutcome
-packedCall h rows bytes = writtenAs (packedUnwritable layout1 h rows) (packedCard h rows) bytes
+packedCall h rows bytes = writtenAs (packedUnwritable h rows) (packedCard h rows) bytes

@@ -3,10 +3,10 @@ ghost use mathlib.Core.Path.{_≡_};
 ghost use Rattle.card_form.specs.Rows.{lentCardRows};
 ghost use Rattle.packed_call.specs.PackedCards.{headerFrom, packedCall};
 ghost use Rattle.written.specs.Outcome.{bytesOutcome};
+use card::layout::FoundLayout;
 use card::layout::Header;
-use card::layout::layout_1;
 use card_form::card_size;
-use packed_cards::judge::is_unwritable;
+use packed_cards::judge::layout_of;
 use packed_cards::write::write_card;
 use written::Written;
 use written::refused;
@@ -33,15 +33,17 @@ pub fn write_packed_card(
         coverage: coverage as u64,
         confidence: confidence as u64,
     };
-    let l = layout_1();
-    if is_unwritable(l, h, starts, ends, keys, confidences) {
-        return refused(11);
-    }
-    if bytes.len() < card_size(l, ends.len()) {
-        return refused(12);
-    }
-    Written {
-        refusal: 0,
-        length: write_card(bytes, l, h, ends, keys, confidences),
+    let found = layout_of(h, starts, ends, keys, confidences);
+    match found {
+        FoundLayout::Missing => refused(11),
+        FoundLayout::Found(l) => {
+            if bytes.len() < card_size(l, ends.len()) {
+                return refused(12);
+            }
+            Written {
+                refusal: 0,
+                length: write_card(bytes, l, h, ends, keys, confidences),
+            }
+        }
     }
 }

@@ -1,17 +1,16 @@
 -- Packed rows as what is judged, and what is known of those that a card holds.
 use mathlib.Core.Path.{_≡_}
-use mathlib.Core.Bool.{false}
 use lib.ListN.{length}
 use Rattle.card.specs.declared.layout.Layout.{Layout}
+use Rattle.card.specs.declared.layout.FoundLayout.the-variants.{Found}
 use Rattle.card.specs.declared.layout.Header.{Header}
 use Rattle.card_form.specs.Rows.{CardRows, rowAt}
 use Rattle.card_form.proofs.Broken.{Asked, Held, held}
-use Rattle.packed_cards.specs.Packed.{firstPackedGap, packedUnwritable}
+use Rattle.packed_cards.specs.Packed.{firstPackedGap, packedLayout}
 
-abbrev pub asked : Layout → Header → CardRows → Asked
-asked l h rows =
+abbrev pub asked : Header → CardRows → Asked
+asked h rows =
     record {
-      layout = l;
       header = h;
       at = rowAt (rows .ends) (rows .keys) (rows .confidences);
       count = length (rows .ends);
@@ -21,6 +20,6 @@ asked l h rows =
       gap = firstPackedGap (rows .starts) (rows .ends);
     }
 
-pub writable : (l : Layout) (h : Header) (rows : CardRows) → packedUnwritable l h rows ≡ false → Held (asked l h rows)
-unfolding packedUnwritable
-writable l h rows w = held (asked l h rows) w
+pub writable : (l : Layout) (h : Header) (rows : CardRows) → packedLayout h rows ≡ Found l → Held (asked h rows) l
+unfolding packedLayout
+writable l h rows w = held (asked h rows) w

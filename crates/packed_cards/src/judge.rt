@@ -1,12 +1,15 @@
 // Packed numbers judged by the card rules.
 ghost use mathlib.Core.Path.{_≡_};
 ghost use lib.ListN.{length};
-ghost use Rattle.card.specs.Rules.{firstBroken};
+ghost use Rattle.card.specs.Rules.{firstBroken, cardBroken, layoutFor};
 ghost use Rattle.card_form.specs.Rows.{lentCardRows, cardSegmentsIn};
-ghost use Rattle.packed_cards.specs.Packed.{firstPackedGap, packedUnwritable};
+ghost use Rattle.packed_cards.specs.Packed.{packedMeaning, firstPackedGap, packedLayout};
 use crate::rows::row_at;
+use card::layout::FoundLayout;
 use card::layout::Header;
 use card::layout::Layout;
+use card::layout::layout_1;
+use card::layout::layout_2;
 use card::rules::header_broken;
 use card::rules::segment_broken;
 use card_form::unequal_lengths;
@@ -31,7 +34,7 @@ fn first_gap(starts: &[u32], ends: &[u32]) -> usize
     }
 }
 
-// The first segment that breaks a rule, or their count.
+// The first segment that breaks a rule of the layout, or their count.
 fn first_broken(l: Layout, ends: &[u32], keys: &[u8], confidences: &[u16]) -> usize
     requires { ⌜ (length (now keys) ≡ length (now ends)) × (length (now confidences) ≡ length (now ends)) ⌝ }
     ensures { λ r. ⌜ r ≡ firstBroken l (cardSegmentsIn (now (ends .entry)) (now (keys .entry)) (now (confidences .entry))) ⌝ }
@@ -52,26 +55,50 @@ fn first_broken(l: Layout, ends: &[u32], keys: &[u8], confidences: &[u16]) -> us
     }
 }
 
-// Whether no card of this layout holds the header and the segments.
-pub fn is_unwritable(
-    l: Layout,
+// Whether the header and the segments break a rule of the layout.
+fn is_broken(l: Layout, h: Header, ends: &[u32], keys: &[u8], confidences: &[u16]) -> bool
+    requires { ⌜ (length (now keys) ≡ length (now ends)) × (length (now confidences) ≡ length (now ends)) ⌝ }
+    ensures { λ r. ⌜ r ≡ cardBroken l (packedMeaning h (now (ends .entry)) (now (keys .entry)) (now (confidences .entry))) ⌝ }
+{
+    let count = ends.len();
+    if header_broken(l, h, count) {
+        return true;
+    }
+    first_broken(l, ends, keys, confidences) < count
+}
+
+// The first layout of which they break no rule.
+fn layout_for(h: Header, ends: &[u32], keys: &[u8], confidences: &[u16]) -> FoundLayout
+    requires { ⌜ (length (now keys) ≡ length (now ends)) × (length (now confidences) ≡ length (now ends)) ⌝ }
+    ensures { λ r. ⌜ r ≡ layoutFor (packedMeaning h (now (ends .entry)) (now (keys .entry)) (now (confidences .entry))) ⌝ }
+{
+    let first = layout_1();
+    let second = layout_2();
+    if !is_broken(first, h, ends, keys, confidences) {
+        return FoundLayout::Found(first);
+    }
+    if !is_broken(second, h, ends, keys, confidences) {
+        return FoundLayout::Found(second);
+    }
+    FoundLayout::Missing
+}
+
+// The layout that the header and the rows are written in.
+pub fn layout_of(
     h: Header,
     starts: &[u32],
     ends: &[u32],
     keys: &[u8],
     confidences: &[u16],
-) -> bool
-    ensures { λ r. ⌜ r ≡ packedUnwritable l h (lentCardRows (starts .entry) (ends .entry) (keys .entry) (confidences .entry)) ⌝ }
+) -> FoundLayout
+    ensures { λ r. ⌜ r ≡ packedLayout h (lentCardRows (starts .entry) (ends .entry) (keys .entry) (confidences .entry)) ⌝ }
 {
     let count = ends.len();
     if unequal_lengths(starts.len(), count, keys.len(), confidences.len()) {
-        return true;
+        return FoundLayout::Missing;
     }
-    if header_broken(l, h, count) {
-        return true;
+    if first_gap(starts, ends) < count {
+        return FoundLayout::Missing;
     }
-    if first_broken(l, ends, keys, confidences) < count {
-        return true;
-    }
-    first_gap(starts, ends) < count
+    layout_for(h, ends, keys, confidences)
 }

@@ -23,10 +23,10 @@ pub extern "C" fn probe_thousandths(x: f32) -> u64
     number_of(thousandths(x))
 }
 
-// Up to four hours.
+// Up to a day.
 #[no_mangle]
 pub extern "C" fn probe_milliseconds(x: f64) -> u64
-    ensures { λ r. ⌜ r ≡ numberOf (millisecondsOf x 14400000) ⌝ }
+    ensures { λ r. ⌜ r ≡ numberOf (millisecondsOf x 86400000) ⌝ }
 {
-    number_of(milliseconds(x, 14400000))
+    number_of(milliseconds(x, 86400000))
 }

@@ -29,12 +29,12 @@ use Rattle.shortening.specs.Shorten.{firstShort, keeper, joinAt, unsettled, joi
 use Rattle.alternates.specs.Alternate.{heldSeconds, lasting, totalOf, lastsIn, secondsOf, lastingKeys, rivalOf, coverageOf, lacks, alternateOf}
 use Rattle.bits.specs.Bits.{bitsOf, numberOf, bytesCut}
 use Rattle.card_form.specs.Form.{segmentsBits, cardBytes}
-use Rattle.card.specs.Rules.{headerBroken, segmentBroken, cardBroken}
+use Rattle.card.specs.Rules.{headerBroken, segmentBroken, cardBroken, layoutFor}
 use Rattle.card_form.specs.Rows.{unequal}
-use Rattle.card_judge.specs.Analysed.{unwritable}
+use Rattle.card_judge.specs.Analysed.{layoutOf}
 use Rattle.answers.specs.Answer.{keyless}
 use Rattle.sixteen.specs.Rows.{rowA, rowB, rowC, rowD, rowE, rowF, rowG, rowH, rowI, rowJ, rowK, rowL, rowM, rowN, rowO, rowP, rows, RowsHold}
 
 pub rows-hold : RowsHold
-unfolding rows rowA rowB rowC rowD rowE rowF rowG rowH rowI rowJ rowK rowL rowM rowN rowO rowP first passing fold without keysMet lastLargest totalOrder converted minimumNumber seconds short joined votesOf majorityOf splits borderAfter innerBorders groupOf segmentsBetween groupsOf firstShort keeper joinAt unsettled joinShort shorten shortenedOf heldSeconds lasting totalOf lastsIn secondsOf lastingKeys rivalOf coverageOf lacks alternateOf le bitsOf numberOf bytesCut segmentsBits cardBytes headerBroken segmentBroken cardBroken unequal unwritable keyless classOf blended readAt shifted floored ofInt toSigned every isNan lt eq add sub mul div neg toBits ofBits turns list magnitudeOf maximumNumber clampedTo sumOf wholeRoot doubledRoot rootOfUnits rootOf tonics profiles profileAt sumsOf quotientOf correlationOf heldUp heldUpAt anyBelow shapelessAt shapelessOf scoreOf scoresOf placed candidateAt placesOf louder chosenKey confidenceOf classifiedOf
+unfolding rows rowA rowB rowC rowD rowE rowF rowG rowH rowI rowJ rowK rowL rowM rowN rowO rowP first passing fold without keysMet lastLargest totalOrder converted minimumNumber seconds short joined votesOf majorityOf splits borderAfter innerBorders groupOf segmentsBetween groupsOf firstShort keeper joinAt unsettled joinShort shorten shortenedOf heldSeconds lasting totalOf lastsIn secondsOf lastingKeys rivalOf coverageOf lacks alternateOf le bitsOf numberOf bytesCut segmentsBits cardBytes headerBroken segmentBroken cardBroken layoutFor unequal layoutOf keyless classOf blended readAt shifted floored ofInt toSigned every isNan lt eq add sub mul div neg toBits ofBits turns list magnitudeOf maximumNumber clampedTo sumOf wholeRoot doubledRoot rootOfUnits rootOf tonics profiles profileAt sumsOf quotientOf correlationOf heldUp heldUpAt anyBelow shapelessAt shapelessOf scoreOf scoresOf placed candidateAt placesOf louder chosenKey confidenceOf classifiedOf
 rows-hold = tt

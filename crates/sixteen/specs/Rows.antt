@@ -19,11 +19,10 @@ use Rattle.shortening.specs.Shorten.{shortenedOf}
 use Rattle.alternates.specs.declared.alternate.Alternate.{Alternate}
 use Rattle.alternates.specs.Alternate.{alternateOf, alternateNumber, alternateCoverage}
 use Rattle.chroma.specs.Shift.{shiftedOf}
-use Rattle.card.specs.Layout.{layout1}
-use Rattle.card_form.specs.Form.{cardBytes}
 use Rattle.card.specs.Rules.{noKey}
-use Rattle.card_judge.specs.Analysed.{Analysis, analysis, meaningOf, unwritable}
+use Rattle.card_judge.specs.Analysed.{Analysis, analysis, unwritable}
 use Rattle.card_call.specs.Answered.{cardOfAnswer}
+use Rattle.card_call.specs.Cards.{cardOf}
 use Rattle.answers.specs.Answer.{keyless}
 use Rattle.key_choice.specs.declared.classify.Classified.{Classified}
 use Rattle.key_choice.specs.Classify.{confidenceOf, classifiedOf}
@@ -178,7 +177,7 @@ sameNumbers = pairwise eqb 0
 
 -- a card holds the analysis, and has these bytes
 abbrev pub writes : Analysis → List ℕ → Bool
-writes a bytes = not (unwritable layout1 a) && sameNumbers (cardBytes layout1 (meaningOf layout1 a)) bytes
+writes a bytes = not (unwritable a) && sameNumbers (cardOf a) bytes
 
 -- key 21, DSP key 21, no alternate, confidence 0.5; one segment from 0 to 180 s, key 21, confidence 0.5
 abbrev pub aMinor : Analysis

@@ -21,7 +21,7 @@ use Rattle.laws.proofs.Held.{value-nonneg}
 use Rattle.laws.proofs.Middle.{modest-under}
 use Rattle.laws.proofs.Parts.{whole-is, parts-rounds, parts-modest}
 use Rattle.calls.specs.declared.Settings.{Settings}
-use Rattle.windows.specs.Span.{spanOf, brief, endsAt, windowsWithin, windowsOf, rowsAsked}
+use Rattle.windows.specs.Span.{spanOf, brief, endsAt, budgetFor, windowsWithin, windowsOf, rowsAsked}
 use Rattle.calls.specs.Call.{secondsAt, longestTrack}
 use Rattle.windows.specs.Rising.{Timed}
 use Rattle.windows.specs.declared.span.Span.{Span}
@@ -38,11 +38,11 @@ unfolding rowsAsked
 some-asked s = omega arith
 
 -- the budget holds the windows far below what a count can be
-pub windows-few : (s : Span) → windowsOf s ≤ 28_801
+pub windows-few : (s : Span) → windowsOf s ≤ budgetFor longestTrack
 unfolding windowsOf windowsWithin
-windows-few s = either (brief s) (first-within (endsAt s) 28_801 0)
+windows-few s = either (brief s) (first-within (endsAt s) (budgetFor longestTrack) 0)
   where
-    either : (b : Bool) → first (endsAt s) 28_801 0 ≤ 0 + 28_801 → cond b 0 (first (endsAt s) 28_801 0) ≤ 28_801
+    either : (b : Bool) → first (endsAt s) (budgetFor longestTrack) 0 ≤ 0 + budgetFor longestTrack → cond b 0 (first (endsAt s) (budgetFor longestTrack) 0) ≤ budgetFor longestTrack
     either true h = omega arith
     either false h = omega arith
 

@@ -107,12 +107,12 @@ impl Analyzer {
         self.tables.set(settings)
     }
 
-    /// Analyses a track: mono samples at the rate of the settings.
+    /// Analyses a track: mono samples at the rate of the settings, of a day at most. Where there is no memory for its
+    /// rows, it is refused with 8.
     pub fn analyse(&mut self, samples: &[f32]) -> Result<Analysis, Refusal> {
         let Tables { settings, sheet } = &self.tables;
         let mut told = calls::analyse(*settings, sheet, samples, &mut self.lent);
-        if told.refusal == TOO_FEW_ROWS {
-            self.lent.grow_for(settings, samples.len());
+        if told.refusal == TOO_FEW_ROWS && self.lent.grow_for(settings, samples.len()).is_ok() {
             told = calls::analyse(*settings, sheet, samples, &mut self.lent);
         }
         (self.loud_frames, self.estimates) = (told.frames as usize, told.estimates as usize);
@@ -129,8 +129,7 @@ impl Analyzer {
     ) -> Result<impl ExactSizeIterator<Item = LoudFrame> + use<'a>, Refusal> {
         let Tables { settings, sheet } = &self.tables;
         let mut told = calls::frames(*settings, sheet, samples, &mut self.lent.frames);
-        if told.refusal == TOO_FEW_ROWS {
-            self.lent.grow_frames_for(settings, samples.len());
+        if told.refusal == TOO_FEW_ROWS && self.lent.grow_frames_for(settings, samples.len()).is_ok() {
             told = calls::frames(*settings, sheet, samples, &mut self.lent.frames);
         }
         (self.loud_frames, self.estimates) = (told.count as usize, 0);
@@ -270,6 +269,17 @@ mod tests {
         let frames: Vec<LoudFrame> = analyzer.frames(track).expect("the same track").collect();
         assert!(told.key.is_some() && !estimates.is_empty() && !frames.is_empty(), "{told:?}");
         format!("{told:?} {estimates:?} {frames:?}")
+    }
+
+    #[test]
+    fn a_day_is_analysed_and_a_sample_more_is_not() {
+        let slow = Settings::for_rate(2).with(|settings| settings.frame_size = 32);
+        let mut analyzer = Analyzer::new(slow).expect("settings that are taken");
+        let told = analyzer.analyse(&vec![0.0; 172_800]).expect("a day");
+        assert_eq!((told.duration, told.key), (86_400.0, None));
+        let why = analyzer.analyse(&vec![0.0; 172_801]).expect_err("more than a day");
+        assert_eq!(why.to_string(), "172801 samples at 2 Hz are more than 24 hours (refusal 4)");
+        assert_eq!(analyzer.frames(&vec![0.0; 172_801]).err(), Some(why));
     }
 
     #[test]

@@ -29,7 +29,8 @@ impl fmt::Display for CardError {
         match self {
             Self::RuleBroken => write!(
                 out,
-                "no card holds the analysis, such as one of more than 1023 segments (refusal {UNWRITABLE})"
+                "no card holds the analysis, such as one of more than {MOST_CARD_SEGMENTS} segments \
+                 (refusal {UNWRITABLE})"
             ),
             Self::Unknown { refusal } => {
                 write!(out, "the card was refused with the unknown number {refusal}")
@@ -44,10 +45,7 @@ impl Error for CardError {}
 fn written(write: impl FnOnce(&mut [u8]) -> Written) -> Result<Vec<u8>, CardError> {
     let mut bytes = vec![0; LONGEST_CARD];
     match write(&mut bytes) {
-        Written { refusal: 0, length } => {
-            bytes.truncate(length);
-            Ok(bytes)
-        }
+        Written { refusal: 0, length } => Ok(bytes[..length].to_vec()),
         Written { refusal: UNWRITABLE, .. } => Err(CardError::RuleBroken),
         Written { refusal, .. } => Err(CardError::Unknown { refusal }),
     }
@@ -56,6 +54,11 @@ fn written(write: impl FnOnce(&mut [u8]) -> Written) -> Result<Vec<u8>, CardErro
 /// The card with these fields.
 pub fn card(fields: &CardFields<'_>) -> Result<Vec<u8>, CardError> {
     written(|bytes| write_card(fields, bytes))
+}
+
+/// The layout that bytes name, in their first four bits.
+pub fn layout_of(bytes: &[u8]) -> u8 {
+    bytes.first().map_or(0, |first| first >> 4)
 }
 
 /// A key's number, or that of a missing one.
@@ -105,13 +108,14 @@ pub struct CardAlternate {
 /// assert_eq!(card.to_string(), "A minor\n0 180000 A minor");
 /// assert_eq!(card.key_at(90_000).map(|key| key.camelot()), Some("8A".into()));
 /// assert_eq!(card.key_at(180_001), None);
-/// assert_eq!(card.to_bytes(), bytes);
+/// assert_eq!((card.layout(), card.to_bytes()), (1, bytes.to_vec()));
 /// assert_eq!(Card::read(&bytes[..10]).map_err(|why| why.number()), Err(20));
 /// # Ok(())
 /// # }
 /// ```
 #[derive(Debug, Clone, PartialEq, Eq, Hash)]
 pub struct Card {
+    layout: u8,
     key: Option<Key>,
     dsp_key: Option<Key>,
     alternate: Option<CardAlternate>,
@@ -120,11 +124,12 @@ pub struct Card {
 }
 
 impl Card {
-    /// Reads a card: these bytes, from the first to the last. Refused are a wrong length (20), an unknown layout (21)
-    /// and a broken card rule or a filler bit set (22). It lends rows for the most segments, so 24 never comes.
+    /// Reads a card: these bytes, from the first to the last. Refused are a wrong length (20), an unknown layout (21), a
+    /// broken card rule or a filler bit set (22), and layout 2 where layout 1 would have held the card (23). It lends
+    /// rows for the most segments, so 24 never comes.
     pub fn read(bytes: &[u8]) -> Result<Self, Refusal> {
-        let (mut starts, mut ends) = ([0; MOST_CARD_SEGMENTS], [0; MOST_CARD_SEGMENTS]);
-        let (mut keys, mut confidences) = ([0; MOST_CARD_SEGMENTS], [0; MOST_CARD_SEGMENTS]);
+        let (mut starts, mut ends) = (vec![0; MOST_CARD_SEGMENTS], vec![0; MOST_CARD_SEGMENTS]);
+        let (mut keys, mut confidences) = (vec![0; MOST_CARD_SEGMENTS], vec![0; MOST_CARD_SEGMENTS]);
         let told = read_card(bytes, &mut starts, &mut ends, &mut keys, &mut confidences);
         if told.refusal != 0 {
             return Err(Refusal::of_card(told.refusal, bytes));
@@ -138,6 +143,7 @@ impl Card {
         };
         let alternate = |key| CardAlternate { key, coverage: told.coverage as u16 };
         Ok(Self {
+            layout: layout_of(bytes),
             key: key(told.key),
             dsp_key: key(told.dsp_key),
             alternate: key(told.alternate).map(alternate),
@@ -161,6 +167,12 @@ impl Card {
             confidences: &column(each, |segment| segment.confidence),
         };
         written(|bytes| write_packed_card(&fields, bytes)).expect("what was read breaks no card rule")
+    }
+
+    /// The layout of its bytes: 1 where that holds it, which is up to 1,023 segments and 14,400,000 ms, else 2. A deck
+    /// that knows layout 1 alone refuses the other with 21.
+    pub fn layout(&self) -> u8 {
+        self.layout
     }
 
     /// The reported key; none on an empty card.
@@ -254,6 +266,35 @@ mod tests {
         Card::try_from(&analysis(told)).expect("no rule is broken")
     }
 
+    /// The card of segments in A minor up to these milliseconds.
+    fn card_up_to(ends: &[u32]) -> Result<Vec<u8>, CardError> {
+        let (key, count) = (if ends.is_empty() { NO_KEY } else { 21 }, ends.len());
+        let fields = PackedFields {
+            key,
+            dsp_key: key,
+            alternate: NO_KEY,
+            coverage: 0,
+            confidence: 0,
+            starts: &[&[0], ends].concat()[..count],
+            ends,
+            keys: &vec![21; count],
+            confidences: &vec![500; count],
+        };
+        written(|bytes| write_packed_card(&fields, bytes))
+    }
+
+    /// A millisecond for each of so many segments.
+    fn card_of_count(count: u32) -> Result<Vec<u8>, CardError> {
+        card_up_to(&(1..=count).collect::<Vec<_>>())
+    }
+
+    /// Layout, bytes, segments and end of a card that is read, and written again as it was.
+    fn read_back(bytes: &[u8]) -> (u8, usize, usize, u32) {
+        let card = Card::read(bytes).expect("a card that was written");
+        assert_eq!(card.to_bytes(), bytes);
+        (card.layout(), bytes.len(), card.segments().len(), card.duration_ms())
+    }
+
     /// The same bytes but for one bit.
     fn with_bit(mut bytes: Vec<u8>, at: usize) -> Vec<u8> {
         bytes[at / 8] ^= 0x80 >> (at % 8);
@@ -306,6 +347,48 @@ mod tests {
     }
 
     #[test]
+    fn a_late_end_takes_layout_2() {
+        for (end, layout, length) in [
+            (14_399_999, 1, 11),
+            (14_400_000, 1, 11),
+            (14_400_001, 2, 12),
+            (1 << 24, 2, 12),
+            (86_400_000, 2, 12),
+        ] {
+            let bytes = card_up_to(&[end]).expect("a card");
+            assert_eq!(read_back(&bytes), (layout, length, 1, end));
+        }
+        assert_eq!(card_up_to(&[86_400_001]), Err(CardError::RuleBroken));
+        let both = card_up_to(&[14_400_000, 14_400_001]).expect("a card");
+        assert_eq!(read_back(&both), (2, 17, 2, 14_400_001));
+    }
+
+    #[test]
+    fn many_segments_take_layout_2() {
+        for (count, layout, length) in [(0, 1, 7), (1_023, 1, 4_994), (1_024, 2, 5_383), (4_095, 2, 21_506)] {
+            let bytes = card_of_count(count).expect("a card");
+            assert_eq!(read_back(&bytes), (layout, length, count as usize, count));
+        }
+        assert_eq!(card_of_count(4_096), Err(CardError::RuleBroken));
+    }
+
+    #[test]
+    fn layout_2_is_refused_where_layout_1_would_do() {
+        // the last bit of the end, behind 51 bits of header
+        let (late, last_bit) = (card_up_to(&[14_400_001]).expect("a card"), 51 + 26);
+        let needless = with_bit(late, last_bit);
+        let empty = [&[0x2C], &ROW_P[1..]].concat();
+        for bytes in [&needless, &empty] {
+            let words = "the card is in layout 2, and layout 1 would have held it (refusal 23)";
+            assert_eq!(Card::read(bytes), Err(Refusal::CardNeedlessLayout));
+            assert_eq!(Refusal::CardNeedlessLayout.to_string(), words);
+            let (last, cut) = (8 * bytes.len() - 1, bytes.len() - 1);
+            assert_eq!(Card::read(&with_bit(bytes.clone(), last)), Err(Refusal::CardBroken));
+            assert_eq!(Card::read(&bytes[..cut]).map_err(|why| why.number()), Err(20));
+        }
+    }
+
+    #[test]
     fn mix_points_have_the_key_of_their_segment() {
         for told in all_told() {
             let (card, ends) = (card_of(&told), milliseconds(&told.ends));
@@ -325,11 +408,11 @@ mod tests {
         let (alternate, filler) = (with_bit(ROW_O.to_vec(), 18), with_bit(ROW_P.to_vec(), 55));
         let cases: [(&[u8], &str); 8] = [
             (&[], "a card has at least 7 bytes, and there are 0 (refusal 20)"),
-            (&[0x20; 6], "a card has at least 7 bytes, and there are 6 (refusal 20)"),
+            (&[0x30; 6], "a card has at least 7 bytes, and there are 6 (refusal 20)"),
             (&ROW_O[..10], "10 bytes are not as many as the card's segment count gives (refusal 20)"),
             (&longer[..12], "12 bytes are not as many as the card's segment count gives (refusal 20)"),
-            (&longer, "a card has at most 4994 bytes, and there are more (refusal 20)"),
-            (&[0x20; SHORTEST_CARD], "the card's layout, 2, is not known (refusal 21)"),
+            (&longer, "a card has at most 21506 bytes, and there are more (refusal 20)"),
+            (&[0x30; SHORTEST_CARD], "the card's layout, 3, is not known (refusal 21)"),
             (&alternate, "the card breaks a card rule, or a bit behind its last field is set (refusal 22)"),
             (&filler, "the card breaks a card rule, or a bit behind its last field is set (refusal 22)"),
         ];

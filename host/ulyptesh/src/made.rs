@@ -40,12 +40,13 @@ impl Random {
     }
 }
 
-/// Without segments there is no key, and one in two keys has an alternate.
+/// Without segments there is no key, and one in two keys has an alternate. Segments are of up to a minute or, in one of
+/// two tracks, of up to two hours less a little, so that twelve of them fit into a day.
 pub fn told(random: &mut Random, count: usize) -> Told {
-    let mut end = 0;
+    let (mut end, longest) = (0, [60_000_000, 7_190_000_000][random.below(2) as usize]);
     // two milliseconds further at least, every other then cut to whole ones: no two ends are in one
     let mut later = |nth: usize| {
-        end += 2_000 + random.below(60_000_000);
+        end += 2_000 + random.below(longest);
         end -= if nth.is_multiple_of(2) { end % 1_000 } else { 0 };
         end as f64 / 1_000_000.0
     };

@@ -1,7 +1,9 @@
 //! Why a track was not analysed or a card not read, in words and by the library's number.
 use crate::calls::{
-    CARD_BROKEN, CARD_UNKNOWN_LAYOUT, CARD_WRONG_LENGTH, LONGEST_CARD, SHORTEST_CARD, TOO_FEW_CARD_ROWS,
+    CARD_BROKEN, CARD_NEEDLESS_LAYOUT, CARD_UNKNOWN_LAYOUT, CARD_WRONG_LENGTH, LONGEST_CARD,
+    LONGEST_TRACK_SECONDS, SHORTEST_CARD, TOO_FEW_CARD_ROWS,
 };
+use crate::card::layout_of;
 use crate::settings::{Engine, Settings};
 use std::error::Error;
 use std::fmt;
@@ -10,7 +12,7 @@ use std::fmt;
 #[non_exhaustive]
 #[derive(Debug, Clone, Copy, PartialEq)]
 pub enum Refusal {
-    /// With these settings every track is answered without a key, or refused as too long.
+    /// With these settings every track is answered without a key.
     #[non_exhaustive]
     NothingAnalysed {
         /// What is wrong with them.
@@ -36,7 +38,7 @@ pub enum Refusal {
         /// The setting.
         name: &'static str,
     },
-    /// 4: there are more samples than 14,400 times the rate.
+    /// 4: there are more samples than 86,400 times the rate.
     #[non_exhaustive]
     TrackTooLong {
         /// How many samples there are.
@@ -54,7 +56,7 @@ pub enum Refusal {
     SheetOfAnotherCall,
     /// 7: the sheet is not well formed.
     SheetNotWellFormed,
-    /// 8: fewer rows are lent than the track needs.
+    /// 8: fewer rows are lent than the track needs; of an [`Analyzer`](crate::Analyzer), memory is too little for them.
     TooLittleRoom,
     /// 9: a loud frame's energy or chroma is not finite.
     #[non_exhaustive]
@@ -74,7 +76,7 @@ pub enum Refusal {
         /// How many bytes there are.
         length: usize,
     },
-    /// 21: the card's layout is not known.
+    /// 21: the card's layout is neither 1 nor 2.
     #[non_exhaustive]
     CardUnknownLayout {
         /// The layout.
@@ -82,6 +84,8 @@ pub enum Refusal {
     },
     /// 22: a card rule is broken, or a bit that fills the card's last byte is set.
     CardBroken,
+    /// 23: the card is in layout 2, and layout 1 would have held it.
+    CardNeedlessLayout,
     /// 24: fewer rows are lent than the card has segments.
     TooFewCardRows,
     /// A number that this crate does not know.
@@ -111,9 +115,8 @@ fn nothing_because(settings: &Settings) -> &'static str {
         (settings.hop_size == 0, "the hop is 0"),
         (settings.minimum_midi_note > settings.maximum_midi_note, "the lowest note is above the highest"),
         (settings.local_window_seconds <= 0.0, "the local window is not above 0"),
-        (settings.local_hop_seconds <= 0.0, "the local hop is not above 0"),
     ];
-    reasons.into_iter().find(|reason| reason.0).map_or("a frame is longer than four hours", |reason| reason.1)
+    reasons.into_iter().find(|reason| reason.0).map_or("the local hop is not above 0", |reason| reason.1)
 }
 
 /// Why no card has this length.
@@ -152,10 +155,9 @@ impl Refusal {
     pub fn of_card(number: u32, bytes: &[u8]) -> Self {
         match number {
             CARD_WRONG_LENGTH => Self::CardWrongLength { length: bytes.len() },
-            CARD_UNKNOWN_LAYOUT => {
-                Self::CardUnknownLayout { layout: bytes.first().map_or(0, |first| first >> 4) }
-            }
+            CARD_UNKNOWN_LAYOUT => Self::CardUnknownLayout { layout: layout_of(bytes) },
             CARD_BROKEN => Self::CardBroken,
+            CARD_NEEDLESS_LAYOUT => Self::CardNeedlessLayout,
             TOO_FEW_CARD_ROWS => Self::TooFewCardRows,
             _ => Self::Unknown { number },
         }
@@ -178,6 +180,7 @@ impl Refusal {
             Self::CardWrongLength { .. } => CARD_WRONG_LENGTH,
             Self::CardUnknownLayout { .. } => CARD_UNKNOWN_LAYOUT,
             Self::CardBroken => CARD_BROKEN,
+            Self::CardNeedlessLayout => CARD_NEEDLESS_LAYOUT,
             Self::TooFewCardRows => TOO_FEW_CARD_ROWS,
             Self::Unknown { number } => number,
         }
@@ -193,12 +196,15 @@ impl Refusal {
             Self::FrameOrHopTooLarge { .. } => "the hop is above 1048576 samples".into(),
             Self::SettingNotFinite { name } => format!("the {name} is not finite"),
             Self::TrackTooLong { samples, rate } => {
-                format!("{samples} samples at {rate} Hz are more than four hours")
+                let hours = LONGEST_TRACK_SECONDS / 3_600;
+                format!("{samples} samples at {rate} Hz are more than {hours} hours")
             }
             Self::LocalHopTooShort { seconds } => format!("the local hop of {seconds} s is below 0.5 s"),
             Self::SheetOfAnotherCall => "the table sheet was made for another call".into(),
             Self::SheetNotWellFormed => "the table sheet is not well formed".into(),
-            Self::TooLittleRoom => "fewer rows were lent than the track needs".into(),
+            Self::TooLittleRoom => {
+                "the track needs more rows than were lent, or than there is memory for".into()
+            }
             Self::FrameNotFinite { position } => {
                 format!("the frame at position {position} is loud, and its energy or chroma is not finite")
             }
@@ -208,6 +214,7 @@ impl Refusal {
             Self::CardWrongLength { length } => wrong_length(*length),
             Self::CardUnknownLayout { layout } => format!("the card's layout, {layout}, is not known"),
             Self::CardBroken => "the card breaks a card rule, or a bit behind its last field is set".into(),
+            Self::CardNeedlessLayout => "the card is in layout 2, and layout 1 would have held it".into(),
             Self::TooFewCardRows => "fewer rows were lent than the card has segments".into(),
             Self::Unknown { .. } => "refused for a reason unknown here".into(),
         }
@@ -245,8 +252,8 @@ mod tests {
 
     #[test]
     fn refusals_of_cards_tell_their_number() {
-        for number in [CARD_WRONG_LENGTH, CARD_UNKNOWN_LAYOUT, CARD_BROKEN, TOO_FEW_CARD_ROWS, 23] {
-            tells(Refusal::of_card(number, &[0x30; SHORTEST_CARD]), number, number != 23);
+        for number in (20..=24).chain([99]) {
+            tells(Refusal::of_card(number, &[0x30; SHORTEST_CARD]), number, number != 99);
         }
     }
 }

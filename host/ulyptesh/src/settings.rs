@@ -5,9 +5,8 @@ use crate::refusal::Refusal;
 /// No larger frame is taken.
 const LARGEST_FRAME: usize = 65_536;
 
-/// What the library answers about a sheet without tables, and about a frame that is longer than the longest track.
+/// What the library answers about a sheet without tables.
 const NOT_WELL_FORMED: u32 = 7;
-const TOO_LONG: u32 = 4;
 
 /// How the Goertzel magnitudes of a frame's notes are worked out, by number. Both engines give the same numbers, bit for
 /// bit, so every answer is the same; only the time differs. Any other number is refused.
@@ -105,7 +104,6 @@ impl Settings {
         let told = analyse(*self, &Sheet::empty(self), &silence, &mut Buffers::default());
         match told.refusal {
             NOT_WELL_FORMED => Ok(()),
-            TOO_LONG => Err(Refusal::new(0, 0, self, silence.len())),
             number => Err(Refusal::new(number, 0, self, silence.len())),
         }
     }
@@ -140,8 +138,11 @@ mod tests {
         |settings| settings.local_hop_seconds = 0.0,
     ];
 
-    /// So many silent samples are more than four hours at 1 Hz.
-    const SAMPLES: usize = 14_401;
+    /// So many silent samples are some seconds at the usual rate.
+    const SAMPLES: usize = 20_000;
+
+    /// So many are a day at 1 Hz.
+    const DAY: usize = 86_400;
 
     fn usual() -> Settings {
         Settings::for_rate(8_000)
@@ -151,21 +152,34 @@ mod tests {
         settings.with(|settings| settings.engine = engine)
     }
 
-    /// What analyse and frames say of silence, over a sheet and without rows.
-    fn said(settings: Settings, sheet: &Sheet) -> [u32; 2] {
-        let (silence, mut lent) = ([0.0; SAMPLES], Buffers::default());
+    /// What analyse and frames say of so many silent samples, over a sheet and without rows.
+    fn said_of(samples: usize, settings: Settings, sheet: &Sheet) -> [u32; 2] {
+        let (silence, mut lent) = (vec![0.0; samples], Buffers::default());
         let analysed = analyse(settings, sheet, &silence, &mut lent);
         [analysed.refusal, frames(settings, sheet, &silence, &mut lent.frames).refusal]
     }
 
-    /// Both calls say so with each engine, and 13 with a number that is none.
-    fn engine_comes_first(settings: Settings, sheet: &Sheet, expected: [u32; 2]) {
+    fn said(settings: Settings, sheet: &Sheet) -> [u32; 2] {
+        said_of(SAMPLES, settings, sheet)
+    }
+
+    /// A rate at which a day is short.
+    fn slow(rate: u32) -> Settings {
+        usual().with(|settings| (settings.rate, settings.frame_size) = (rate, 32))
+    }
+
+    /// Both calls say so of so many samples with each engine, and 13 with a number that is none.
+    fn engine_comes_first_of(samples: usize, settings: Settings, sheet: &Sheet, expected: [u32; 2]) {
         for engine in KNOWN {
-            assert_eq!(said(by(engine, settings), sheet), expected, "{settings:?}");
+            assert_eq!(said_of(samples, by(engine, settings), sheet), expected, "{settings:?}");
         }
         for engine in UNKNOWN {
-            assert_eq!(said(by(engine, settings), sheet), [13, 13], "{settings:?}");
+            assert_eq!(said_of(samples, by(engine, settings), sheet), [13, 13], "{settings:?}");
         }
+    }
+
+    fn engine_comes_first(settings: Settings, sheet: &Sheet, expected: [u32; 2]) {
+        engine_comes_first_of(SAMPLES, settings, sheet, expected);
     }
 
     #[test]
@@ -198,12 +212,28 @@ mod tests {
 
     #[test]
     fn engines_are_judged_before_4_to_8() {
-        let slow = usual().with(|settings| (settings.rate, settings.frame_size) = (1, 32));
         let hasty = usual().with(|settings| settings.local_hop_seconds = 0.25);
-        engine_comes_first(slow, &Sheet::for_call(&slow), [4, 4]);
+        engine_comes_first_of(DAY + 1, slow(1), &Sheet::for_call(&slow(1)), [4, 4]);
         engine_comes_first(hasty, &Sheet::for_call(&hasty), [5, 8]);
-        engine_comes_first(usual(), &Sheet::empty(&slow), [6, 6]);
+        engine_comes_first(usual(), &Sheet::empty(&slow(1)), [6, 6]);
         engine_comes_first(usual(), &Sheet::empty(&usual()), [7, 7]);
         engine_comes_first(usual(), &Sheet::for_call(&usual()), [8, 8]);
+    }
+
+    #[test]
+    fn no_track_is_longer_than_a_day() {
+        for rate in [1, 2, 63] {
+            let (settings, day) = (slow(rate), DAY * rate as usize);
+            for (samples, expected) in [(day / 6 + 1, 8), (day - 1, 8), (day, 8), (day + 1, 4)] {
+                let told = said_of(samples, settings, &Sheet::for_call(&settings));
+                assert_eq!(told, [expected; 2], "{samples} at {rate} Hz");
+            }
+        }
+    }
+
+    #[test]
+    fn the_largest_frame_is_on_a_track_at_any_rate() {
+        let large = usual().with(|settings| (settings.rate, settings.frame_size) = (1, LARGEST_FRAME));
+        assert_eq!(large.check(), Ok(()));
     }
 }

@@ -15,8 +15,8 @@ slice-aggregate-read-full c = search needs
 read-full-requires : tie.Need-read-full-requires
 read-full-requires c κs = search needs
 
-large-buffer-requires-2 : tie.Need-large-buffer-requires-2
-large-buffer-requires-2 c κs = search needs
+listing-room-requires : tie.Need-listing-room-requires
+listing-room-requires c κs = search needs
 
 array-share-prefix-card : tie.Need-array-share-prefix-card
 array-share-prefix-card c = search needs
@@ -49,7 +49,7 @@ main-spec =
     large-buffer-requires
     slice-aggregate-read-full
     read-full-requires
-    large-buffer-requires-2
+    listing-room-requires
     array-share-prefix-card
     slice-aggregate-write-listing
     slice-aggregate-write-listing-2

@@ -82,7 +82,7 @@ read-segments-requires c κs =
     let same = count .count-on .ensures .0 in
     record {
       layout = card told .sound .fits;
-      narrow = card told .sound .narrow;
+      narrow = omega (arith, card told .sound .narrow);
       few = count .count-on .ensures .1;
       there = rw same (all-there (card told));
       fits = λ i h. segment-small (card told) i (rw same at h);

@@ -1,14 +1,14 @@
 //! Key cards, written into lent bytes.
 use super::written::Written;
 
-/// The most segments on a card.
-pub const MOST_CARD_SEGMENTS: usize = 1_023;
+/// The most segments on a card; layout 1 holds 1,023 of them, up to 14,400,000 ms, and layout 2 all, up to 86,400,000.
+pub const MOST_CARD_SEGMENTS: usize = 4_095;
 
-/// Bytes of a card without segments: 49 bits of header.
+/// Bytes of a card without segments: 49 bits of header in layout 1.
 pub const SHORTEST_CARD: usize = 49usize.div_ceil(8);
 
-/// Bytes of a card with as many segments as it can have: 49 bits of header, 39 for each.
-pub const LONGEST_CARD: usize = (49 + 39 * MOST_CARD_SEGMENTS).div_ceil(8);
+/// Bytes of a card with as many segments as it can have: in layout 2, 51 bits of header and 42 for each.
+pub const LONGEST_CARD: usize = (51 + 42 * MOST_CARD_SEGMENTS).div_ceil(8);
 
 /// What a card is written from: keys by number, times in seconds, confidences and the coverage from 0 to 1. The same
 /// in packed numbers is [`PackedFields`](super::PackedFields).
@@ -54,9 +54,9 @@ unsafe extern "C" {
     ) -> Written;
 }
 
-/// Writes a card to the front of the bytes; those behind it stay. Times become milliseconds, confidences and the
-/// coverage thousandths, all rounded down, so that no end lies after the audio; two ends in one millisecond, and a
-/// number below 0, are refused.
+/// Writes a card to the front of the bytes, in layout 1 where that holds it, else in layout 2; those behind it stay.
+/// Times become milliseconds, confidences and the coverage thousandths, all rounded down, so that no end lies after the
+/// audio; two ends in one millisecond, and a number below 0, are refused.
 pub fn write_card(told: &CardFields<'_>, bytes: &mut [u8]) -> Written {
     // SAFETY: each pointer and count are one slice, which outlives the call; the bytes are exclusive.
     unsafe {

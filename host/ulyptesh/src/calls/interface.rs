@@ -1,7 +1,7 @@
 //! The number of the C interface.
 
 /// The number of the interface that this crate is written for.
-pub const ABI: u32 = 4;
+pub const ABI: u32 = 5;
 
 unsafe extern "C" {
     safe fn ulyptesh_abi() -> u32;

@@ -24,8 +24,8 @@ pub use frames::{FramesResult, frames};
 pub use interface::{ABI, abi};
 pub use names::{LONGEST_NAME, write_key_name};
 pub use packed_cards::{
-    CARD_BROKEN, CARD_UNKNOWN_LAYOUT, CARD_WRONG_LENGTH, CardRead, PackedFields, TOO_FEW_CARD_ROWS,
-    read_card, write_packed_card,
+    CARD_BROKEN, CARD_NEEDLESS_LAYOUT, CARD_UNKNOWN_LAYOUT, CARD_WRONG_LENGTH, CardRead, PackedFields,
+    TOO_FEW_CARD_ROWS, read_card, write_packed_card,
 };
 pub use rows::{Buffers, EstimateRows, FrameRows, SegmentRows, frame_positions, windows};
 pub use sheet::{Sheet, SheetHead};
@@ -41,4 +41,4 @@ pub const KEYS: usize = 24;
 pub const NO_KEY: u32 = 24;
 
 /// The longest track, in seconds.
-pub const LONGEST_TRACK_SECONDS: usize = 14_400;
+pub const LONGEST_TRACK_SECONDS: usize = 86_400;

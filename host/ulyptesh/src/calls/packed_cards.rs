@@ -6,11 +6,14 @@ use super::written::Written;
 /// The refusal for under 7 bytes or, where the layout is known, another length than the segment count gives.
 pub const CARD_WRONG_LENGTH: u32 = 20;
 
-/// The refusal for a layout that is not known.
+/// The refusal for a layout that is not known; 1 and 2 are.
 pub const CARD_UNKNOWN_LAYOUT: u32 = 21;
 
 /// The refusal for a broken card rule, or a bit set that fills the last byte.
 pub const CARD_BROKEN: u32 = 22;
+
+/// The refusal for a card in layout 2 that layout 1 would have held.
+pub const CARD_NEEDLESS_LAYOUT: u32 = 23;
 
 /// The refusal for fewer segment rows than the card has segments.
 pub const TOO_FEW_CARD_ROWS: u32 = 24;
@@ -102,7 +105,8 @@ pub fn read_card(
     }
 }
 
-/// Writes a card of packed numbers to the front of the bytes; those behind it stay.
+/// Writes a card of packed numbers to the front of the bytes, in layout 1 where that holds it, else in layout 2; those
+/// behind it stay.
 pub fn write_packed_card(told: &PackedFields<'_>, bytes: &mut [u8]) -> Written {
     // SAFETY: each pointer and count are one slice, which outlives the call; the bytes are exclusive.
     unsafe {

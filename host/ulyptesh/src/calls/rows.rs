@@ -1,6 +1,7 @@
 //! What the calls are lent to write, and how much a track needs.
 use super::{LONGEST_TRACK_SECONDS, PITCH_CLASSES};
 use crate::settings::Settings;
+use std::collections::TryReserveError;
 
 /// Rows for frames. The shortest list is the room.
 #[derive(Debug, Clone, Default, PartialEq)]
@@ -76,9 +77,20 @@ pub struct Buffers {
     pub segments: SegmentRows,
 }
 
-/// Zeros are added up to this length.
-fn grow<A: Clone + Default>(list: &mut Vec<A>, length: usize) {
+/// Zeros are added up to this length, where there is memory for them.
+fn grow<A: Clone + Default>(list: &mut Vec<A>, length: usize) -> Result<(), TryReserveError> {
+    list.try_reserve_exact(length.saturating_sub(list.len()))?;
     list.resize(list.len().max(length), A::default());
+    Ok(())
+}
+
+impl FrameRows {
+    /// The largest list first.
+    fn grow_to(&mut self, positions: usize) -> Result<(), TryReserveError> {
+        grow(&mut self.values, positions)?;
+        grow(&mut self.centres, positions)?;
+        grow(&mut self.energies, positions)
+    }
 }
 
 impl Buffers {
@@ -88,33 +100,44 @@ impl Buffers {
     /// Where so much memory can't be had.
     pub fn for_track(settings: &Settings, samples: usize) -> Self {
         let mut lent = Self::default();
-        lent.grow_for(settings, samples);
+        lent.grow_for(settings, samples).expect("memory for the track's rows");
         lent
     }
 
-    /// At least as many as a track of so many samples needs; what is there stays.
-    pub fn grow_for(&mut self, settings: &Settings, samples: usize) {
-        let (positions, windows) = (frame_positions(settings, samples), windows(settings, samples));
-        self.grow_frames_for(settings, samples);
-        let Self { work, estimates, segments, .. } = self;
-        grow(work, positions);
-        grow(&mut estimates.middles, windows);
-        grow(&mut estimates.numbers, windows);
-        grow(&mut estimates.certainties, windows);
-        grow(&mut estimates.shapeless, windows);
-        grow(&mut segments.starts, windows);
-        grow(&mut segments.ends, windows);
-        grow(&mut segments.keys, windows);
-        grow(&mut segments.confidences, windows);
-        grow(&mut segments.counts, windows);
+    /// At least as many as a track of so many samples needs; what is there stays. Where so much memory can't be had,
+    /// nothing is left.
+    pub fn grow_for(&mut self, settings: &Settings, samples: usize) -> Result<(), TryReserveError> {
+        let grown = self.grow_to(frame_positions(settings, samples), windows(settings, samples));
+        self.or_nothing(grown)
     }
 
-    /// At least as many frame rows as a track of so many samples needs; what is there stays.
-    pub fn grow_frames_for(&mut self, settings: &Settings, samples: usize) {
-        let (positions, frames) = (frame_positions(settings, samples), &mut self.frames);
-        grow(&mut frames.centres, positions);
-        grow(&mut frames.values, positions);
-        grow(&mut frames.energies, positions);
+    /// The same of the frame rows alone.
+    pub fn grow_frames_for(&mut self, settings: &Settings, samples: usize) -> Result<(), TryReserveError> {
+        let grown = self.frames.grow_to(frame_positions(settings, samples));
+        self.or_nothing(grown)
+    }
+
+    /// Memory that does not suffice is given back.
+    fn or_nothing(&mut self, grown: Result<(), TryReserveError>) -> Result<(), TryReserveError> {
+        if grown.is_err() {
+            *self = Self::default();
+        }
+        grown
+    }
+
+    fn grow_to(&mut self, positions: usize, windows: usize) -> Result<(), TryReserveError> {
+        let Self { frames, work, estimates, segments } = self;
+        frames.grow_to(positions)?;
+        grow(work, positions)?;
+        grow(&mut estimates.middles, windows)?;
+        grow(&mut estimates.numbers, windows)?;
+        grow(&mut estimates.certainties, windows)?;
+        grow(&mut estimates.shapeless, windows)?;
+        grow(&mut segments.starts, windows)?;
+        grow(&mut segments.ends, windows)?;
+        grow(&mut segments.keys, windows)?;
+        grow(&mut segments.confidences, windows)?;
+        grow(&mut segments.counts, windows)
     }
 
     /// How much memory is lent.
@@ -133,5 +156,45 @@ impl Buffers {
             + size_of_val(&*segments.keys)
             + size_of_val(&*segments.confidences)
             + size_of_val(&*segments.counts)
+    }
+}
+
+#[cfg(test)]
+mod tests {
+    use super::*;
+
+    /// More frame rows than any memory holds.
+    const ENDLESS: usize = usize::MAX / 64;
+
+    #[test]
+    fn rows_grow_and_never_shrink() {
+        let (settings, mut lent) = (Settings::for_rate(8_000), Buffers::default());
+        for seconds in [30, 60, 1] {
+            let before = lent.bytes();
+            assert_eq!(lent.grow_for(&settings, seconds * 8_000), Ok(()));
+            let wanted = Buffers::for_track(&settings, seconds * 8_000);
+            assert_eq!(lent.bytes(), before.max(wanted.bytes()));
+        }
+    }
+
+    #[test]
+    fn memory_that_does_not_suffice_is_given_back() {
+        let settings = Settings::for_rate(8_000).with(|settings| settings.hop_size = 1);
+        let filled = Buffers::for_track(&settings, 5_000);
+        assert_ne!(filled, Buffers::default());
+        let (mut all, mut frames) = (filled.clone(), filled);
+        assert!(all.grow_for(&settings, ENDLESS).is_err());
+        assert!(frames.grow_frames_for(&settings, ENDLESS).is_err());
+        assert_eq!((all, frames), (Buffers::default(), Buffers::default()));
+    }
+
+    #[test]
+    fn a_day_has_two_windows_a_second_at_most() {
+        let most = Settings::for_rate(1).with(|settings| {
+            (settings.local_window_seconds, settings.local_hop_seconds) = (12.0, 0.5);
+        });
+        assert_eq!(windows(&most, 86_400), 172_777);
+        let brief = most.with(|settings| settings.local_window_seconds = f32::MIN_POSITIVE);
+        assert_eq!(windows(&brief, 86_400), MOST_WINDOWS);
     }
 }

@@ -32,7 +32,7 @@ fn columns_of(centre: f64, half: f64, duration: f64, count: usize) -> RangeInclu
 }
 
 /// The columns of a track; one without a loud frame is empty.
-fn columns(frames: &[LoudFrame], half: f64, duration: f64, count: usize) -> Vec<Column> {
+fn columns(frames: impl Iterator<Item = LoudFrame>, half: f64, duration: f64, count: usize) -> Vec<Column> {
     let mut sums = vec![([0.0; 12], 0); count];
     for frame in frames {
         for (sum, heard) in &mut sums[columns_of(frame.centre, half, duration, count)] {
@@ -107,7 +107,7 @@ fn legend(largest: f64) -> String {
 }
 
 /// The map of a track with frames of some length, in seconds.
-pub fn drawn(frames: &[LoudFrame], frame: f64, duration: f64) -> String {
+pub fn drawn(frames: impl Iterator<Item = LoudFrame>, frame: f64, duration: f64) -> String {
     let count = ((2.0 * duration / frame) as usize).clamp(1, MOST);
     let columns = columns(frames, frame / 2.0, duration, count);
     let largest = largest(&columns);

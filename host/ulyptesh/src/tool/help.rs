@@ -18,7 +18,8 @@ ulyptesh tells the musical key of tracks.
 pub const ANALYSE: &str = "\
 ulyptesh analyse FILE.. --rate N [OPTION..]
   The key, confidence, alternate key and key segments of each track, each as it is done.
-  FILE            raw mono samples, 32-bit little-endian floats; - is standard input. For any other file:
+  FILE            raw mono samples, 32-bit little-endian floats, of 24 hours at most; - is standard
+                  input. For any other file:
                   ffmpeg -nostdin -v error -i FILE -f f32le -ac 1 -ar N - | ulyptesh analyse - --rate N
   --rate N        samples in a second, up to 192000
 
@@ -34,7 +35,8 @@ ulyptesh analyse FILE.. --rate N [OPTION..]
   --key-only      the key alone, a line for each track; of several with a tab and the file's name
   --notation WORD keys as sharps (C# minor), flats (Db minor), camelot (12A) or open-key (5m)
   --card OUT      also writes the key card, for one file; - is standard output, in place of the text.
-                  Its times are milliseconds, rounded down: none lies after the audio
+                  Its times are milliseconds, rounded down: none lies after the audio. Beyond 1023
+                  segments or 4 hours it has layout 2, which decks of versions before 0.7.0 refuse
   --svg OUT       also draws the segments and the chroma over time, likewise; windows without shape are
                   hatched
   --cards DIR     also writes the key card of each track into a folder that is there, as NAME.card
@@ -67,9 +69,9 @@ ulyptesh card FILE.. [--json | --json-lines | --notation WORD]
   end in milliseconds and its key. Of several cards each stands under its file's name. A card that is
   refused does not keep others from being shown: 'refused' and the number, in JSON an object with it, go
   to standard output, the words to standard error. A file that can't be read is told there alone. The
-  numbers: 20 wrong length, 21 unknown layout, 22 a card rule broken or a filler bit set. A card of a
-  version before 0.2.0 has its ends to the nearest millisecond: the last may lie after the audio, by
-  half a millisecond at most.
+  numbers: 20 wrong length, 21 unknown layout, 22 a card rule broken or a filler bit set, 23 layout 2
+  where layout 1 would have held the card. A card of a version before 0.2.0 has its ends to the nearest
+  millisecond: the last may lie after the audio, by half a millisecond at most.
   FILE            a card, as analyse --card or --cards writes it; - is standard input
   --json          an array with an object for each card
   --json-lines    an object a line for each card

@@ -151,6 +151,7 @@ pub fn card(file: &str, read: &Result<Card, Refusal>, layout: Layout) -> String 
         ("version", VERSION.to_string()),
         ("file", string(file)),
         ("refusal", or_null(read.as_ref().err(), |why| why.number().to_string())),
+        ("layout", or_null(card, |card| card.layout().to_string())),
         ("duration_ms", or_null(card, |card| card.duration_ms().to_string())),
     ];
     let keys = keys(key, dsp_key, &[confidence], alternate.map(|other| other.key), coverage);
@@ -184,10 +185,28 @@ mod tests {
         assert!(has(", \"windows\": 30}]", |told| told.segments[0].windows = 30));
     }
 
+    /// The object of the card of a track, changed.
+    fn card_with(change: impl FnOnce(&mut Analysis)) -> String {
+        let bytes = told_with(change).card().expect("a card");
+        card("card", &Card::read(&bytes), Layout::OneLine)
+    }
+
     #[test]
     fn shapes_and_windows_are_not_told_of_cards() {
-        let bytes = told_with(|told| told.shapeless = true).card().expect("a card");
-        let told = card("card", &Card::read(&bytes), Layout::OneLine);
+        let told = card_with(|told| told.shapeless = true);
         assert!(!told.contains("shape") && !told.contains("windows"), "{told}");
+    }
+
+    #[test]
+    fn layouts_are_told_of_cards() {
+        for (end, fields) in [
+            (14_400.0, "\"refusal\": null, \"layout\": 1, \"duration_ms\": 14400000, "),
+            (86_400.0, "\"refusal\": null, \"layout\": 2, \"duration_ms\": 86400000, "),
+        ] {
+            let told = card_with(|told| told.segments[0].end = end);
+            assert!(told.contains(fields), "{told}");
+        }
+        let refused = card("card", &Card::read(&[]), Layout::OneLine);
+        assert!(refused.contains("\"refusal\": 20, \"layout\": null, \"duration_ms\": null, "), "{refused}");
     }
 }

@@ -3,7 +3,7 @@ use super::hatching::{self, PATTERN, Stretch, stretches};
 use super::heat_map::{self, BOTTOM, LEGEND};
 use super::text::{NO_SHAPE, named, windows};
 use std::iter;
-use ulyptesh::{Analysis, Analyzer, Key, LoudFrame, Mode, Segment};
+use ulyptesh::{Analysis, Analyzer, Key, Mode, Segment};
 
 /// Where time begins, and how far it goes.
 pub const LEFT: usize = 60;
@@ -27,17 +27,17 @@ const SMALL_LETTER: f64 = 7.0;
 /// The longest name that fits beneath the title.
 const LONGEST_NAME: usize = 90;
 
-/// Seconds from tick to tick; the first that gives few enough is taken.
-const STEPS: [f64; 15] =
-    [0.1, 0.2, 0.5, 1.0, 2.0, 5.0, 10.0, 15.0, 30.0, 60.0, 120.0, 300.0, 600.0, 1_200.0, 1_800.0];
+/// Seconds from tick to tick; the first that gives few enough is taken, else the longest, which does for a day.
+const STEPS: [f64; 16] =
+    [0.1, 0.2, 0.5, 1.0, 2.0, 5.0, 10.0, 15.0, 30.0, 60.0, 120.0, 300.0, 600.0, 1_200.0, 1_800.0, 3_600.0];
+const LONGEST_STEP: f64 = 7_200.0;
 const MOST_TICKS: f64 = 12.0;
 
 pub struct Picture<'a> {
     name: &'a str,
     told: &'a Analysis,
-    frames: Vec<LoudFrame>,
-    /// Seconds of a frame.
-    frame: f64,
+    /// The chroma over time, as it is drawn.
+    map: String,
     /// Where windows have no shape.
     shapeless: Vec<Stretch>,
 }
@@ -102,8 +102,8 @@ impl<'a> Picture<'a> {
     pub fn new(name: &'a str, told: &'a Analysis, analyzer: &Analyzer) -> Self {
         let settings = analyzer.settings();
         let frame = settings.frame_size as f64 / f64::from(settings.rate);
-        let shapeless = shapeless(told, analyzer);
-        Self { name, told, frames: analyzer.loud_frames().collect(), frame, shapeless }
+        let map = heat_map::drawn(analyzer.loud_frames(), frame, told.duration);
+        Self { name, told, map, shapeless: shapeless(told, analyzer) }
     }
 
     fn x(&self, seconds: f64) -> f64 {
@@ -194,7 +194,7 @@ impl<'a> Picture<'a> {
 
     fn axis(&self) -> String {
         let duration = self.told.duration;
-        let step = STEPS.into_iter().find(|step| duration / step <= MOST_TICKS).unwrap_or(3_600.0);
+        let step = STEPS.into_iter().find(|step| duration / step <= MOST_TICKS).unwrap_or(LONGEST_STEP);
         let ticks = (0..).map(|nth| f64::from(nth) * step).take_while(|&seconds| seconds <= duration);
         ticks.map(|seconds| self.tick(seconds)).collect()
     }
@@ -205,9 +205,8 @@ impl<'a> Picture<'a> {
             return String::new();
         }
         let blocks: String = self.told.segments.iter().map(|segment| self.block(segment)).collect();
-        let map = heat_map::drawn(&self.frames, self.frame, self.told.duration);
         let (hatching, legend) = (self.hatching(), self.hatching_legend());
-        format!("<g text-anchor=\"middle\">\n{blocks}{hatching}{}</g>\n{map}{legend}", self.axis())
+        format!("<g text-anchor=\"middle\">\n{blocks}{hatching}{}</g>\n{}{legend}", self.axis(), self.map)
     }
 }
 
@@ -233,7 +232,7 @@ mod tests {
 
     /// The picture of two seconds with these stretches.
     fn drawn(told: &Analysis, shapeless: Vec<Stretch>) -> String {
-        svg(&Picture { name: "track", told, frames: vec![], frame: 0.5, shapeless })
+        svg(&Picture { name: "track", told, map: String::new(), shapeless })
     }
 
     /// How often a text stands in a picture.
@@ -247,6 +246,41 @@ mod tests {
             let picture = drawn(&told_with(|told| told.segments[0].windows = windows), vec![]);
             assert_eq!(count(&picture, &format!("{said}/title>")), 1);
         }
+    }
+
+    /// The labels below the blocks, each with its place, from left to right.
+    fn labels(told: &Analysis) -> Vec<(f64, String)> {
+        let (picture, line) = (drawn(told, vec![]), format!("\" y=\"{}\">", BLOCKS + BLOCK_HEIGHT + 20));
+        let label = |at: usize| {
+            let (before, behind) = (&picture[..at], &picture[at + line.len()..]);
+            let x = before.rsplit('"').next().and_then(|x| x.parse().ok()).expect("a place");
+            (x, behind.split('<').next().expect("a label").into())
+        };
+        picture.match_indices(&line).map(|(at, _)| label(at)).collect()
+    }
+
+    #[test]
+    fn times_do_not_overlap() {
+        let (mut told, lengths) = (told_with(|_| ()), (1..=86_400).step_by(61).map(f64::from));
+        for seconds in
+            lengths.chain([0.5, 1.2, 9.9, 3_599.0, 3_600.0, 14_400.0, 14_401.0, 86_399.0, 86_400.0])
+        {
+            told.duration = seconds;
+            let labels = labels(&told);
+            assert!((2..=13).contains(&labels.len()), "{seconds} s: {labels:?}");
+            for pair in labels.windows(2) {
+                let halves = (pair[0].1.len() + pair[1].1.len()) as f64 / 2.0;
+                assert!(pair[1].0 - pair[0].0 > halves * SMALL_LETTER, "{seconds} s: {pair:?}");
+            }
+        }
+    }
+
+    #[test]
+    fn the_times_of_a_day_have_hours() {
+        let labels = labels(&told_with(|told| told.duration = 86_400.0));
+        let [first, second, .., last] = &labels[..] else { panic!("{labels:?}") };
+        assert_eq!((first.1.as_str(), second.1.as_str(), last.1.as_str()), ("0:00", "2:00:00", "24:00:00"));
+        assert_eq!((first.0, last.0), (LEFT as f64, (LEFT + WIDTH) as f64));
     }
 
     #[test]

@@ -30,8 +30,12 @@ pub fn read(file: &OsStr, settings: &Settings, samples: &mut Vec<f32>) -> Result
     if length > longest(settings) {
         return Err(refused_about(file, Refusal::new(TOO_LONG, 0, settings, length)));
     }
-    samples.try_reserve_exact(length).map_err(|why| refused_about(file, why))?;
+    samples.try_reserve_exact(length).map_err(|_| failed(no_memory_for(length)))?;
     take(file, opened, settings, samples)
+}
+
+fn no_memory_for(samples: usize) -> io::Error {
+    io::Error::other(format!("there is too little memory for {samples} samples"))
 }
 
 /// How many samples the longest track has.
@@ -67,6 +71,12 @@ fn take(
     }
 }
 
+/// For so many samples more and some to spare or, where memory does not hold these, for no others.
+fn make_room(samples: &mut Vec<f32>, more: usize) -> io::Result<()> {
+    let made = samples.try_reserve(more).or_else(|_| samples.try_reserve_exact(more));
+    made.map_err(|_| no_memory_for(samples.len() + more))
+}
+
 /// Appends whole samples, and gives the number of bytes behind the last.
 fn gather(mut from: impl Read, most: usize, samples: &mut Vec<f32>) -> io::Result<usize> {
     let (mut block, mut kept) = ([0; BLOCK], 0);
@@ -78,6 +88,7 @@ fn gather(mut from: impl Read, most: usize, samples: &mut Vec<f32>) -> io::Resul
             Err(why) => return Err(why),
         };
         let (whole, rest) = block[..filled].as_chunks::<BYTES>();
+        make_room(samples, whole.len())?;
         samples.extend(whole.iter().map(|&bytes| f32::from_le_bytes(bytes)));
         kept = rest.len();
         block.copy_within(filled - kept..filled, 0);

@@ -4,6 +4,9 @@ use ulyptesh::{Analysis, Key, Notation};
 /// Said of a chroma that is so even that no key stands out.
 pub const NO_SHAPE: &str = "the chroma has no shape";
 
+/// A time has so many places at least, with two behind the point.
+const FEWEST_PLACES: usize = 6;
+
 /// A key as a reader is told it: in one notation, or by its name with the Camelot code.
 pub fn named(key: Key, notation: Option<Notation>) -> String {
     match notation {
@@ -34,6 +37,11 @@ pub fn windows(count: u32) -> String {
     format!("{count} window{}", if count == 1 { "" } else { "s" })
 }
 
+/// So many places have the times of all segments, which are then one below the other.
+fn places(told: &Analysis) -> usize {
+    format!("{:.2}", told.duration).len().max(FEWEST_PLACES)
+}
+
 /// The key, the alternate and the segments of a track, and where its chroma has no shape.
 pub fn lines(name: &str, told: &Analysis, notation: Option<Notation>) -> Vec<String> {
     let named = |key| named(key, notation);
@@ -46,10 +54,11 @@ pub fn lines(name: &str, told: &Analysis, notation: Option<Notation>) -> Vec<Str
         Some(other) => format!("  alternate: {}, {:.3} of the track", named(other.key), other.coverage),
         None => "  alternate: none".into(),
     });
+    let places = places(told);
     lines.extend(told.segments.iter().map(|segment| {
         let (start, end, key) = (segment.start, segment.end, named(segment.key));
         let (confidence, windows) = (segment.confidence, windows(segment.windows));
-        format!("  {start:6.2} s to {end:6.2} s: {key}, confidence {confidence:.3}, {windows}")
+        format!("  {start:places$.2} s to {end:places$.2} s: {key}, confidence {confidence:.3}, {windows}")
     }));
     if told.lone_other_key().is_some() {
         lines.push("  the key is the whole track's; its one segment tells another".into());
@@ -72,9 +81,28 @@ mod tests {
 
     #[test]
     fn windows_behind_a_segment_are_told_at_the_end_of_its_line() {
-        for (windows, said) in [(0, ", 0 windows"), (1, ", 1 window"), (28_801, ", 28801 windows")] {
+        for (windows, said) in [(0, ", 0 windows"), (1, ", 1 window"), (172_801, ", 172801 windows")] {
             let lines = lines("track", &told_with(|told| told.segments[0].windows = windows), None);
             assert!(lines[2].ends_with(said), "{lines:?}");
+        }
+    }
+
+    #[test]
+    fn times_stand_one_below_the_other() {
+        for (duration, first, second) in [
+            (2.0, "    0.00 s to   1.00 s: ", "    1.00 s to   2.00 s: "),
+            (999.99, "    0.00 s to   1.00 s: ", "    1.00 s to 999.99 s: "),
+            (999.999, "     0.00 s to    1.00 s: ", "     1.00 s to 1000.00 s: "),
+            (86_400.0, "      0.00 s to     1.00 s: ", "      1.00 s to 86400.00 s: "),
+        ] {
+            let told = told_with(|told| {
+                told.duration = duration;
+                told.segments[0].end = 1.0;
+                told.segments.push(told.segments[0]);
+                (told.segments[1].start, told.segments[1].end) = (1.0, duration);
+            });
+            let lines = lines("track", &told, None);
+            assert!(lines[2].starts_with(first) && lines[3].starts_with(second), "{lines:?}");
         }
     }
 

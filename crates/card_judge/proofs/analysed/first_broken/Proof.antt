@@ -9,7 +9,7 @@ use Rattle.card_judge.proofs.analysed.first_broken.Statement.{statement
 use Rattle.card_judge.proofs.analysed.first_broken.Tie as tie
 
 abbrev Inv-loop : tie.InvT-loop
-Inv-loop l ends keys confidences count previous₀ i₀ previous i = Judging l (packedAt l ends keys confidences) count previous i
+Inv-loop l ends keys confidences count previous₀ i₀ previous i = Judging l (packedAt ends keys confidences) count previous i
 
 abbrev μ-loop : tie.MeasureT-loop
 μ-loop l ends keys confidences count previous₀ i₀ previous i = count - i
@@ -17,7 +17,7 @@ abbrev μ-loop : tie.MeasureT-loop
 -- segment i, and how many there are
 module _ (c : tie.Start Inv-loop μ-loop) where
   abbrev at : ℕ → Segment
-  at = packedAt (c .args .l) (c .args .ends .now) (c .args .keys .now) (c .args .confidences .now)
+  at = packedAt (c .args .ends .now) (c .args .keys .now) (c .args .confidences .now)
 
   abbrev count : ℕ
   count = length (c .args .ends .now)

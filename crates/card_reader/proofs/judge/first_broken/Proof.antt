@@ -11,10 +11,10 @@ use Rattle.card_reader.proofs.judge.first_broken.Statement.{statement}
 use Rattle.card_reader.proofs.judge.first_broken.Tie as tie
 
 abbrev Inv-loop : tie.InvT-loop
-Inv-loop bytes l count previous₀ i₀ previous i = Judging l (segmentOn l (bitsOfBytes bytes)) count previous i
+Inv-loop bytes l rules count previous₀ i₀ previous i = Judging rules (segmentOn l (bitsOfBytes bytes)) count previous i
 
 abbrev μ-loop : tie.MeasureT-loop
-μ-loop bytes l count previous₀ i₀ previous i = count - i
+μ-loop bytes l rules count previous₀ i₀ previous i = count - i
 
 -- in a turn: the function's entry, and its segments
 module _ (c : tie.After-segment-broken Inv-loop μ-loop) where
@@ -28,7 +28,7 @@ module _ (c : tie.After-segment-broken Inv-loop μ-loop) where
   at = segmentOn (start .args .l) (bitsOfBytes (start .args .bytes .now))
 
 loop-holds : tie.Need-loop-holds Inv-loop μ-loop
-loop-holds c = let args = c .before .args in judging-start (args .l) (segmentOn (args .l) (bitsOfBytes (args .bytes .now))) (args .count)
+loop-holds c = let args = c .before .args in judging-start (args .rules) (segmentOn (args .l) (bitsOfBytes (args .bytes .now))) (args .count)
 
 segment-on-requires : tie.Need-segment-on-requires Inv-loop μ-loop
 segment-on-requires c κs =
@@ -48,17 +48,17 @@ loop-less c = search needs
 loop-again : tie.Need-loop-again Inv-loop μ-loop
 loop-again c =
     let t = c .before in
-    judging-more (start t .args .l) (at t) (start t .args .count) (turn t .loop .i) (turn t .loop .inv) (t .before .before .if1 .left) (t .before .segment-on .ensures) (t .segment-broken .ensures) (c .if2 .left)
+    judging-more (start t .args .rules) (at t) (start t .args .count) (turn t .loop .i) (turn t .loop .inv) (t .before .before .if1 .left) (t .before .segment-on .ensures) (t .segment-broken .ensures) (c .if2 .left)
 
 returns : tie.Need-returns Inv-loop μ-loop
 returns c =
     let args = c .before .before .before .args in
-    judging-end (args .l) (segmentOn (args .l) (bitsOfBytes (args .bytes .now))) (args .count) (c .before .loop .inv) (c .if1 .taken)
+    judging-end (args .rules) (segmentOn (args .l) (bitsOfBytes (args .bytes .now))) (args .count) (c .before .loop .inv) (c .if1 .taken)
 
 returns-2 : tie.Need-returns-2 Inv-loop μ-loop
 returns-2 c =
     let t = c .before in
-    judging-out (start t .args .l) (at t) (start t .args .count) (turn t .loop .i) (turn t .loop .inv) (t .before .before .if1 .left) (t .before .segment-on .ensures) (t .segment-broken .ensures) (c .if2 .taken)
+    judging-out (start t .args .rules) (at t) (start t .args .count) (turn t .loop .i) (turn t .loop .inv) (t .before .before .if1 .left) (t .before .segment-on .ensures) (t .segment-broken .ensures) (c .if2 .taken)
 
 pub first-broken-spec : {M : Type 1} → statement M
 first-broken-spec =

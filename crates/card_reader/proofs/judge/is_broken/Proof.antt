@@ -1,42 +1,61 @@
--- Header and segments are judged as the card's meaning has them.
-use mathlib.Core.Path.{_≡_}
-use mathlib.Core.Bool.{Bool, _||_}
+-- The header is judged first, then the segments one after the other, as the card's meaning has them.
+use mathlib.Core.Path.{_≡_, ap, _∙_}
+use mathlib.Core.Bool.{Bool}
+use mathlib.Core.List.{List}
 use Prim.Native.Nat.{ℕ}
-use lib.Dec.{ltb}
-use lib.ListN.{length}
 use borrow.Author.Needs.{needs}
 use Rattle.laws.specs.Front.{list}
-use Rattle.laws.proofs.Front.{length-list}
+use Rattle.laws.proofs.Table.{told}
 use Rattle.bits.specs.Bits.{bitsOfBytes}
-use mathlib.Core.List.{List}
-use Rattle.card.specs.Rules.{headerBroken, firstBroken, cardBroken}
+use Rattle.card.specs.Rules.{headerBroken, cardBroken}
 use Rattle.card.specs.declared.layout.Layout.{Layout}
 use Rattle.card.specs.declared.layout.Header.{Header}
-use Rattle.card_form.specs.Form.{headerOn, countOn, segmentOn, meaningOn}
+use Rattle.card.specs.declared.layout.Segment.{Segment}
+use Rattle.card_form.specs.Form.{headerOn, segmentOn, meaningOn}
+use Rattle.card_form.proofs.Broken.{by-header, by-segments}
 use Rattle.card_reader.proofs.judge.is_broken.Statement.{statement}
 use Rattle.card_reader.proofs.judge.is_broken.Tie as tie
 
--- from what was found to what the rules say
-told : (l : Layout) (bits : List ℕ) {count found : ℕ} {h : Header} {flag : Bool} → count ≡ countOn l bits → h ≡ headerOn l bits → found ≡ firstBroken l (list (segmentOn l bits) count) → flag ≡ headerBroken l h count →
-    flag || ltb found count ≡ cardBroken l (meaningOn l bits)
-unfolding cardBroken
-told l bits {count} {found} {h} e header first flag =
-    let counted : length (list (segmentOn l bits) (countOn l bits)) ≡ countOn l bits = length-list (segmentOn l bits) (countOn l bits) in
-    rw (flag, first, header, e, counted)
+-- what stands on the card, of so many segments
+module _ (c : tie.After-header-broken) where
+  abbrev start : tie.Start
+  start = c .before .before .before
+
+  abbrev bits : List ℕ
+  bits = bitsOfBytes (start .args .bytes .now)
+
+  abbrev l : Layout
+  l = start .args .l
+
+  abbrev at : ℕ → Segment
+  at = segmentOn l bits
+
+  abbrev count : ℕ
+  count = start .args .count
+
+  in-header : {b : Bool} → c .header-broken .result ≡ b → headerBroken (start .args .rules) (headerOn l bits) count ≡ b
+  in-header t = told (c .header-broken .ensures ∙ ap (λ (h : Header). headerBroken (start .args .rules) h count) (c .before .header-on .ensures)) t
+
+  -- the count is the card's own
+  own-count : cardBroken (start .args .rules) (record { header = headerOn l bits; segments = list at count }) ≡ cardBroken (start .args .rules) (meaningOn l bits)
+  own-count = ap (λ (n : ℕ). cardBroken (start .args .rules) (record { header = headerOn l bits; segments = list at n })) (start .pre .2)
 
 header-on-requires : tie.Need-header-on-requires
 header-on-requires c κs = search needs
-
-first-broken-requires : tie.Need-first-broken-requires
-first-broken-requires c κs = search needs
 
 header-broken-requires : tie.Need-header-broken-requires
 header-broken-requires c κs = search needs
 
 returns : tie.Need-returns
-returns c =
-    let start = c .before .before .before .before in
-    told (start .args .l) (bitsOfBytes (start .args .bytes .now)) (start .pre .2) (c .before .before .header-on .ensures) (c .before .first-broken .ensures) (c .header-broken .ensures)
+returns c = let h = c .before in by-header (start h .args .rules) (headerOn (l h) (bits h)) (at h) (count h) (in-header h (c .if1 .taken)) ∙ own-count h
+
+first-broken-requires : tie.Need-first-broken-requires
+first-broken-requires c κs = search needs
+
+returns-2 : tie.Need-returns-2
+returns-2 c =
+    let h = c .before .before in
+    by-segments (start h .args .rules) (headerOn (l h) (bits h)) (at h) (count h) (in-header h (c .before .if1 .left)) (c .first-broken .ensures) ∙ own-count h
 
 pub is-broken-spec : {M : Type 1} → statement M
-is-broken-spec = tie.close (tie.spec header-on-requires first-broken-requires header-broken-requires returns)
+is-broken-spec = tie.close (tie.spec header-on-requires header-broken-requires returns first-broken-requires returns-2)

@@ -8,10 +8,10 @@ use lib.Dec.{eqb, ltb}
 use lib.ListN.{length, drop}
 use borrow.Author.Needs.{needs}
 use borrow.Author.Tests.{lt-ltb, le-ltb, ltb-false, eqb-true, not-false}
-use Rattle.laws.proofs.Table.{Reads, here, next, end, reads, told-not}
+use Rattle.laws.proofs.Table.{Reads, here, next, end, reads, told, told-not}
 use Rattle.bits.specs.Bits.{bitsOfBytes}
-use Rattle.card.specs.Layout.{layouts, numberedIn, isKnown, layoutOr1}
-use Rattle.card.specs.Rules.{cardBroken}
+use Rattle.card.specs.Layout.{layouts, numberedIn, isFound, layoutOr1}
+use Rattle.card.specs.Rules.{cardBroken, needless}
 use Rattle.card.specs.declared.layout.Layout.{Layout}
 use Rattle.card.proofs.Known.{Sound, found-sound}
 use Rattle.card_form.specs.Form.{cardSize, numberOn, countOn, meaningOn, fillerSet}
@@ -41,8 +41,8 @@ module _ (c : tie.After-layout-or-1) where
   layout-is : c .layout-or-1 .result ≡ l
   layout-is = c .layout-or-1 .ensures ∙ ap layoutOr1 found-is
 
-  known-is : c .before .is-known .result ≡ isKnown (layoutOn bits)
-  known-is = c .before .is-known .ensures ∙ ap isKnown found-is
+  known-is : c .before .is-found .result ≡ isFound (layoutOn bits)
+  known-is = c .before .is-found .ensures ∙ ap isFound found-is
 
   sound : Sound (c .layout-or-1 .result)
   sound = subst Sound (sym layout-is) (found-sound (numberOn bits))
@@ -64,8 +64,8 @@ number-on-requires c κs = search needs
 layout-numbered-requires : tie.Need-layout-numbered-requires
 layout-numbered-requires c κs = search needs
 
-is-known-requires : tie.Need-is-known-requires
-is-known-requires c κs = search needs
+is-found-requires : tie.Need-is-found-requires
+is-found-requires c κs = search needs
 
 layout-or-1-requires : tie.Need-layout-or-1-requires
 layout-or-1-requires c κs = search needs
@@ -77,7 +77,7 @@ returns-2 : tie.Need-returns-2
 returns-2 c =
     let found = c .before .before in
     let unknown = told-not (known-is found) (c .if2 .taken) in
-    judged (bytes found) (start found .args .rows) (next (c .before .if1 .left) (next (unknown-length (isKnown (layoutOn (bits found))) (eqb (length (bytes found)) (cardSize (l found) (countOn (l found) (bits found)))) unknown) (here unknown)))
+    judged (bytes found) (start found .args .rows) (next (c .before .if1 .left) (next (unknown-length (isFound (layoutOn (bits found))) (eqb (length (bytes found)) (cardSize (l found) (countOn (l found) (bits found)))) unknown) (here unknown)))
 
 -- behind the first rows: the layout is known, and its header is there
 module _ (c : tie.Else2) where
@@ -87,7 +87,7 @@ module _ (c : tie.Else2) where
   long : ltb (length (bytes layout)) 7 ≡ false
   long = c .before .if1 .left
 
-  known : not (isKnown (layoutOn (bits layout))) ≡ false
+  known : not (isFound (layoutOn (bits layout))) ≡ false
   known = told-not (known-is layout) (c .if2 .left)
 
 count-on-requires : tie.Need-count-on-requires
@@ -111,9 +111,9 @@ module _ (c : tie.After-card-size) where
   size-is = c .card-size .ensures ∙ ap₂ cardSize (layout-is (layout second)) count-is
 
   of-length : {b : Bool} → not (eqb (length (bytes (layout second))) (c .card-size .result)) ≡ b →
-      isKnown (layoutOn (bits (layout second))) && not (eqb (length (bytes (layout second))) (cardSize (l (layout second)) (countOn (l (layout second)) (bits (layout second))))) ≡ b
+      isFound (layoutOn (bits (layout second))) && not (eqb (length (bytes (layout second))) (cardSize (l (layout second)) (countOn (l (layout second)) (bits (layout second))))) ≡ b
   of-length t =
-      ap (λ (k : Bool). k && not (eqb (length (bytes (layout second))) (cardSize (l (layout second)) (countOn (l (layout second)) (bits (layout second)))))) (not-false (isKnown (layoutOn (bits (layout second)))) (known second))
+      ap (λ (k : Bool). k && not (eqb (length (bytes (layout second))) (cardSize (l (layout second)) (countOn (l (layout second)) (bits (layout second)))))) (not-false (isFound (layoutOn (bits (layout second)))) (known second))
       ∙ ap (λ (n : ℕ). not (eqb (length (bytes (layout second))) n)) (sym size-is)
       ∙ t
 
@@ -169,16 +169,41 @@ module _ (c : tie.After-filler-set) where
 returns-4 : tie.Need-returns-4
 returns-4 c = past (c .before) (here (of-rules (c .before) (c .if4 .taken)))
 
+is-needless-requires : tie.Need-is-needless-requires
+is-needless-requires c κs =
+    let third = third (c .before) in
+    let count = size third .before .count-on .ensures in
+    (sound (whole-layout third) .fits, count .1, count .0, omega (arith, whole third))
+
+-- behind the layout that is needed
+module _ (c : tie.After-is-needless) where
+  abbrev rules : tie.After-filler-set
+  rules = c .before .before
+
+  of-need : {b : Bool} → c .is-needless .result ≡ b → needless (l (found rules)) (meaningOn (l (found rules)) (bits (found rules))) ≡ b
+  of-need t = told (c .is-needless .ensures ∙ ap (λ (k : Layout). needless k (meaningOn k (bits (found rules)))) (layout-is (found rules))) t
+
+  -- the rows above have failed
+  beyond : {answer : CardJudged} → Reads (Readable (l (found rules))) (drop 4 (readingTable (bytes (found rules)) (bits (found rules)) (l (found rules)) (rows rules))) answer → answer ≡ judgedOf (bytes (found rules)) (rows rules)
+  beyond r = past rules (next (of-rules rules (c .before .if4 .left)) r)
+
+  -- so many segments are counted
+  counted : (holds : ℕ → Type 0) → holds (size (third rules) .before .count-on .result) → holds (countOn (l (found rules)) (bits (found rules)))
+  counted holds h = subst holds (count-is (size (third rules))) h
+
 returns-5 : tie.Need-returns-5
-returns-5 c =
-    let rules = c .before .before in
-    past rules (next (of-rules rules (c .before .if4 .left)) (here (lt-ltb _ _ (subst (λ (n : ℕ). rows rules < n) (count-is (size (third rules))) (c .if5 .taken)))))
+returns-5 c = beyond (c .before) (here (of-need (c .before) (c .if5 .taken)))
 
 returns-6 : tie.Need-returns-6
 returns-6 c =
-    let rules = c .before .before in
-    ap Readable (layout-is (found rules))
-    ∙ past rules (next (of-rules rules (c .before .if4 .left)) (next (le-ltb _ _ (subst (λ (n : ℕ). n ≤ rows rules) (count-is (size (third rules))) (c .if5 .left))) end))
+    let need = c .before .before in
+    beyond need (next (of-need need (c .before .if5 .left)) (here (lt-ltb _ _ (counted need (λ (n : ℕ). rows (rules need) < n) (c .if6 .taken)))))
+
+returns-7 : tie.Need-returns-7
+returns-7 c =
+    let need = c .before .before in
+    ap Readable (layout-is (found (rules need)))
+    ∙ beyond need (next (of-need need (c .before .if5 .left)) (next (le-ltb _ _ (counted need (λ (n : ℕ). n ≤ rows (rules need)) (c .if6 .left))) end))
 
 pub judge-card-spec : {M : Type 1} → statement M
 judge-card-spec =
@@ -186,7 +211,7 @@ judge-card-spec =
     (tie.spec
     number-on-requires
     layout-numbered-requires
-    is-known-requires
+    is-found-requires
     layout-or-1-requires
     returns
     returns-2
@@ -196,5 +221,7 @@ judge-card-spec =
     is-broken-requires
     filler-set-requires
     returns-4
+    is-needless-requires
     returns-5
-    returns-6)
+    returns-6
+    returns-7)

@@ -2,6 +2,7 @@
 use Prim.Native.Nat.{ℕ, _-_, _<_}
 use native.Mathlib.Omega.{arith}
 use lib.ListN.{length}
+use borrow.Author.Needs.{needs}
 use Rattle.card_judge.specs.Analysed.{packedAt}
 use Rattle.card.specs.declared.layout.Segment.{Segment}
 use Rattle.card_pen.proofs.Puts.{Putting, putting-start, putting-room, putting-more, putting-end}
@@ -9,7 +10,7 @@ use Rattle.card_writer.proofs.write.put_segments.Statement.{statement}
 use Rattle.card_writer.proofs.write.put_segments.Tie as tie
 
 abbrev Inv-loop : tie.InvT-loop
-Inv-loop bytes₀ l ends keys confidences pen₀ i₀ bytes pen i = Putting l (packedAt l ends keys confidences) (length ends) bytes₀ bytes pen₀ pen i
+Inv-loop bytes₀ l ends keys confidences pen₀ i₀ bytes pen i = Putting l (packedAt ends keys confidences) (length ends) bytes₀ bytes pen₀ pen i
 
 abbrev μ-loop : tie.MeasureT-loop
 μ-loop bytes₀ l ends keys confidences pen₀ i₀ bytes pen i = length ends - i
@@ -17,7 +18,7 @@ abbrev μ-loop : tie.MeasureT-loop
 -- segment i, and how many there are
 module _ (c : tie.Start Inv-loop μ-loop) where
   abbrev at : ℕ → Segment
-  at = packedAt (c .args .l) (c .args .ends .now) (c .args .keys .now) (c .args .confidences .now)
+  at = packedAt (c .args .ends .now) (c .args .keys .now) (c .args .confidences .now)
 
   abbrev count : ℕ
   count = length (c .args .ends .now)
@@ -51,7 +52,7 @@ shared-slice-read-packed-segment-3 : tie.Need-shared-slice-read-packed-segment-3
 shared-slice-read-packed-segment-3 c = omega (arith, enough (c .before .before .before))
 
 packed-segment-requires : tie.Need-packed-segment-requires Inv-loop μ-loop
-packed-segment-requires c κs = start (c .before .before .before) .pre .0 .layout
+packed-segment-requires c κs = search needs
 
 put-segment-requires : tie.Need-put-segment-requires Inv-loop μ-loop
 put-segment-requires c κs =

@@ -19,7 +19,7 @@ module _ (c : tie.Start) where
   header = packedHeader (c .args .o)
 
   abbrev at : ℕ → Segment
-  at = packedAt (c .args .l) (c .args .ends .now) (c .args .keys .now) (c .args .confidences .now)
+  at = packedAt (c .args .ends .now) (c .args .keys .now) (c .args .confidences .now)
 
   abbrev count : ℕ
   count = length (c .args .ends .now)

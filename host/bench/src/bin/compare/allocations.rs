@@ -1,8 +1,9 @@
 //! No call asks for memory: what is asked of the C library is counted, whichever language asks, while a call runs.
 //! And an analysis takes no more of the stack than the header says.
-use crate::analyses::{self, MOST_SEGMENTS, Told, all_writable};
+use crate::analyses::{self, Told, all_writable, kinds};
 use crate::analysis_calls::Asked;
 use crate::analysis_left;
+use crate::card_model::LAYOUT_2;
 use crate::cards::packed;
 use crate::frame_calls::{self, BREACHES, whole};
 use crate::groups::Groups;
@@ -180,10 +181,15 @@ fn names() -> impl Iterator<Item = (u32, usize)> {
     (0..26).flat_map(|number| (0..=LONGEST_NAME).map(move |lent| (number, lent)))
 }
 
-/// Of every number of segments, and such as break a rule.
+/// Of every number of segments, in each layout.
+fn all_cards(seed: u64) -> impl Iterator<Item = Told> {
+    all_writable(seed, STREAM, kinds(LAYOUT_2.most_segments))
+}
+
+/// The same, and such as break a rule.
 fn cards(seed: u64) -> impl Iterator<Item = Told> {
     let broken = move |breach| analyses::broken(seed, STREAM, BROKEN, breach);
-    all_writable(seed, STREAM, 0..=MOST_SEGMENTS).chain(analyses::BREACHES.iter().flat_map(broken))
+    all_cards(seed).chain(analyses::BREACHES.iter().flat_map(broken))
 }
 
 pub fn compare(groups: &mut Groups) {
@@ -201,6 +207,6 @@ pub fn compare(groups: &mut Groups) {
     groups.group("memory asked for by scores and key", chromas(seed), by_scores, |_| 0);
     groups.group("memory asked for by key names", names(), by_key_name, |_| 0);
     groups.group("memory asked for by cards", cards(seed), by_card, |_| 0);
-    let written = all_writable(seed, STREAM, 0..=MOST_SEGMENTS);
-    groups.group("memory asked for by reading cards and writing them again", written, by_reading, |_| 0);
+    let name = "memory asked for by reading cards and writing them again";
+    groups.group(name, all_cards(seed), by_reading, |_| 0);
 }

@@ -1,14 +1,12 @@
-//! Analyses as a card is written from them: such as it holds, and such as break one of its rules.
-use crate::card_model::length_of;
+//! Analyses as a card is written from them: such as a layout holds, and such as break a rule, so that none does.
+use crate::card_model::{LAYOUT_1, LAYOUT_2, LAYOUTS, Layout};
 use crate::packed::{LONGEST, exact_milliseconds};
 use bench::inputs::random::patterns;
+use std::ops::RangeInclusive;
 use ulyptesh::calls::{CardFields, NO_KEY};
 
-/// Most segments of a card.
-pub const MOST_SEGMENTS: usize = 1_023;
-
-/// The last end of a card, in milliseconds.
-pub const LAST_END: u64 = 1000 * LONGEST;
+/// A card's layout and its number of segments.
+pub type Kind = (Layout, usize);
 
 /// An analysis that owns its lists, and how many bytes are lent for its card.
 #[derive(Debug, Clone)]
@@ -85,17 +83,40 @@ fn part(random: &mut impl Iterator<Item = u64>) -> f32 {
     }
 }
 
-/// Milliseconds that rise from above 1 to at most the last end, two apart at least: an end that is moved down stays
-/// behind the one before it.
-fn rising(count: usize, random: &mut impl Iterator<Item = u64>) -> Vec<u64> {
-    let room = LAST_END / count.max(1) as u64;
+/// Of each layout every number of segments up to so many. A card without segments is of layout 1.
+pub fn kinds(most: usize) -> Vec<Kind> {
+    let of =
+        |layout: Layout, least| (least..=most.min(layout.most_segments)).map(move |count| (layout, count));
+    of(LAYOUT_1, 0).chain(of(LAYOUT_2, 1)).collect()
+}
+
+/// Last ends with which a card is of this kind, moved or not.
+fn last_ends((layout, count): Kind) -> RangeInclusive<u64> {
+    let is_long_alone = layout == LAYOUT_2 && count <= LAYOUT_1.most_segments;
+    let least = if is_long_alone { LAYOUT_1.last_end + 2 } else { 2 * count as u64 };
+    least..=layout.last_end
+}
+
+/// The first of a range, its last, or any.
+fn one_of(range: RangeInclusive<u64>, random: &mut impl Iterator<Item = u64>) -> u64 {
+    let (first, last) = range.into_inner();
+    match below(4, random) {
+        0 => first,
+        1 => last,
+        _ => first + below(last - first + 1, random),
+    }
+}
+
+/// Milliseconds that rise from above 1 to the last end, two apart at least: an end that is moved down stays behind the
+/// one before it.
+fn rising(count: usize, last: u64, random: &mut impl Iterator<Item = u64>) -> Vec<u64> {
+    let room = last / count as u64;
     let mut end = 0;
-    (0..count)
-        .map(|_| {
-            end += 2 + below(room - 1, random);
-            end
-        })
-        .collect()
+    let before = (1..count).map(|_| {
+        end += 2 + below(room - 1, random);
+        end
+    });
+    before.chain([last]).collect()
 }
 
 /// The empty analysis: no key at all.
@@ -114,9 +135,9 @@ fn silent(lent: usize) -> Told {
     }
 }
 
-/// An analysis that a card holds, with so many segments; the lent bytes may be too few.
-pub fn writable(count: usize, random: &mut impl Iterator<Item = u64>) -> Told {
-    let needed = length_of(count);
+/// An analysis whose card is of this kind; the lent bytes may be too few.
+pub fn writable((layout, count): Kind, random: &mut impl Iterator<Item = u64>) -> Told {
+    let needed = layout.length_of(count);
     let lent =
         [needed, needed - 1, needed + 5, below(needed as u64, random) as usize][below(4, random) as usize];
     let mut told = silent(lent);
@@ -130,22 +151,18 @@ pub fn writable(count: usize, random: &mut impl Iterator<Item = u64>) -> Told {
         told.alternate = (told.key + 1 + below(23, random) as u32) % 24;
         told.coverage = part(random);
     }
-    let lone_at_zero = count == 1 && below(4, random) == 0;
-    let ends = if lone_at_zero { vec![0] } else { rising(count, random) };
-    told.set_ends(ends.into_iter(), random);
+    let lone_at_zero = (layout, count) == (LAYOUT_1, 1) && below(4, random) == 0;
+    let last = if lone_at_zero { 0 } else { one_of(last_ends((layout, count)), random) };
+    told.set_ends(rising(count, last, random).into_iter(), random);
     told.keys = (0..count).map(|_| below(24, random) as u8).collect();
     told.confidences = (0..count).map(|_| part(random)).collect();
     told
 }
 
-/// Analyses of the given numbers of segments.
-pub fn all_writable(
-    seed: u64,
-    stream: u64,
-    counts: impl Iterator<Item = usize>,
-) -> impl Iterator<Item = Told> {
+/// Analyses whose cards are of these kinds.
+pub fn all_writable(seed: u64, stream: u64, kinds: Vec<Kind>) -> impl Iterator<Item = Told> {
     let mut random = patterns(seed, stream);
-    counts.map(move |count| writable(count, &mut random))
+    kinds.into_iter().map(move |kind| writable(kind, &mut random))
 }
 
 /// A rule of the card, and what breaks it in an analysis of several segments, given any number.
@@ -292,10 +309,10 @@ pub const BREACHES: [Breach; 31] = [
         },
     },
     Breach {
-        rule: "last end a millisecond above 14,400 s",
+        rule: "last end a millisecond above 86,400 s",
         breaks: |told, any| {
             *told.ends.last_mut().expect("several") =
-                [14_400.001f64.next_up(), 14_400.002, 1e300, f64::INFINITY][(any % 4) as usize];
+                [86_400.001f64.next_up(), 86_400.002, 1e300, f64::INFINITY][(any % 4) as usize];
             chain(told);
         },
     },
@@ -352,15 +369,15 @@ pub const BREACHES: [Breach; 31] = [
         rule: "lists of unequal length, one longer",
         breaks: |told, any| match any % 4 {
             0 => told.starts.push(*told.ends.last().expect("several")),
-            1 => told.ends.push(14_400.0),
+            1 => told.ends.push(LONGEST as f64),
             2 => told.keys.push(0),
             _ => told.confidences.push(0.5),
         },
     },
     Breach {
-        rule: "1,024 segments and more",
+        rule: "4,096 segments and more",
         breaks: |told, any| {
-            let count = MOST_SEGMENTS + 1 + any as usize % 3;
+            let count = LAYOUT_2.most_segments + 1 + any as usize % 3;
             told.ends = (1..=count).map(|end| end as f64).collect();
             told.starts = (0..count).map(|end| end as f64).collect();
             told.keys = vec![3; count];
@@ -375,12 +392,13 @@ fn chain(told: &mut Told) {
     told.starts.iter_mut().skip(1).zip(ends).for_each(|(start, end)| *start = *end);
 }
 
-/// Analyses of 2 to 12 segments, each with the rule broken.
+/// Analyses of 2 to 12 segments for a card of either layout, each with the rule broken.
 pub fn broken(seed: u64, stream: u64, count: usize, breach: &'static Breach) -> impl Iterator<Item = Told> {
     let mut random = patterns(seed, stream);
     (0..count).map(move |_| {
+        let layout = LAYOUTS[below(2, &mut random) as usize];
         let segments = 2 + below(11, &mut random) as usize;
-        let mut told = writable(segments, &mut random);
+        let mut told = writable((layout, segments), &mut random);
         (breach.breaks)(&mut told, next(&mut random));
         told
     })

@@ -22,12 +22,9 @@ const RATES: [u32; 3] = [8_000, 11_025, 12_000];
 const CHECKED: usize = 10_000;
 const AT_LIMIT: usize = 8;
 
-/// Rates with the frame sizes about 14,400 times as large, and the limits of either.
-const RATE_LIMITS: [u32; 8] = [0, 1, 2, 3, 4, 192_000, 192_001, u32::MAX];
-#[rustfmt::skip]
-const SIZE_LIMITS: [usize; 17] = [
-    0, 1, 31, 32, 33, 14_400, 14_401, 28_800, 28_801, 43_200, 43_201, 57_600, 57_601, 65_535, 65_536, 65_537, usize::MAX,
-];
+/// Limits of rates, sizes and all else. A day has more samples than the largest frame at any rate.
+const RATE_LIMITS: [u32; 5] = [0, 1, 192_000, 192_001, u32::MAX];
+const SIZE_LIMITS: [usize; 9] = [0, 1, 31, 32, 33, 65_535, 65_536, 65_537, usize::MAX];
 const HOP_LIMITS: [usize; 5] = [0, 1, 1_048_576, 1_048_577, usize::MAX];
 const NOTE_LIMITS: [u8; 5] = [0, 59, 60, 61, 255];
 const FLOAT_LIMITS: [f32; 12] = [
@@ -243,10 +240,7 @@ fn compare_checks(groups: &mut Groups) {
     let mut dice = Dice::new(groups.seed, STREAM + TURNS as u64);
     let checked = (0..CHECKED).map(|_| about_limits(&mut dice));
     let ours = |settings: Settings| settings.check().err().map(|why| why.number());
-    groups.group("settings checked", checked, ours, |settings| {
-        // a frame that is longer than the longest track is in none
-        refusal_of(&settings, settings.frame_size).map(|number| if number == 4 { 0 } else { number })
-    });
+    groups.group("settings checked", checked, ours, |settings| refusal_of(&settings, settings.frame_size));
 }
 
 pub fn compare(groups: &mut Groups) {

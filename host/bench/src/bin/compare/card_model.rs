@@ -1,6 +1,6 @@
-//! The key card by the request's words: a row of bits that is cut into numbers and joined from them, and each rule as
-//! a sentence.
-use crate::analyses::{LAST_END, MOST_SEGMENTS, Told};
+//! The key card by the request's words: a row of bits that is cut into numbers and joined from them in one of two
+//! layouts, and each rule as a sentence.
+use crate::analyses::Told;
 use crate::key_names::name;
 use crate::packed::{exact_milliseconds, exact_thousandths};
 
@@ -14,19 +14,35 @@ pub const WHOLE: u64 = 1_000;
 pub const WRONG_LENGTH: u32 = 20;
 pub const UNKNOWN_LAYOUT: u32 = 21;
 pub const RULE_BROKEN: u32 = 22;
+pub const NEEDLESS_LAYOUT: u32 = 23;
 pub const TOO_FEW_ROWS: u32 = 24;
 
-/// The bits of layout, key, DSP key, alternate, coverage, confidence and count.
-pub const HEADER: [u32; 7] = [4, 5, 5, 5, 10, 10, 10];
-
-/// The bits of a segment's end, key and confidence.
-pub const SEGMENT: [u32; 3] = [24, 5, 10];
-
-/// The one layout.
-const LAYOUT: u64 = 1;
+/// The bits of a layout's number, of a key and of thousandths.
+const LAYOUT_BITS: u32 = 4;
+pub const KEY_BITS: u32 = 5;
+pub const PART_BITS: u32 = 10;
 
 /// No card is shorter.
 const SHORTEST: usize = 7;
+
+/// A layout of the card: its number, the bits of the segment count and of an end, and its limits of both.
+#[derive(Debug, Clone, Copy, PartialEq, Eq)]
+pub struct Layout {
+    pub number: u64,
+    pub count_bits: u32,
+    pub end_bits: u32,
+    pub most_segments: usize,
+    pub last_end: u64,
+}
+
+pub const LAYOUT_1: Layout =
+    Layout { number: 1, count_bits: 10, end_bits: 24, most_segments: 1_023, last_end: 14_400_000 };
+
+pub const LAYOUT_2: Layout =
+    Layout { number: 2, count_bits: 12, end_bits: 27, most_segments: 4_095, last_end: 86_400_000 };
+
+/// A card has the first of these that holds its meaning.
+pub const LAYOUTS: [Layout; 2] = [LAYOUT_1, LAYOUT_2];
 
 /// A segment's numbers, packed.
 #[derive(Debug, Clone, Copy, PartialEq, Eq)]
@@ -47,27 +63,15 @@ pub struct Meaning {
     pub segments: Vec<Segment>,
 }
 
-/// Bits of a card with so many segments, without those that fill its last byte.
-pub fn bits_of(count: usize) -> usize {
-    HEADER.iter().sum::<u32>() as usize + count * SEGMENT.iter().sum::<u32>() as usize
-}
-
-/// Bytes of a card with so many segments.
-pub fn length_of(count: usize) -> usize {
-    bits_of(count).div_ceil(8)
-}
-
 /// A byte's bits, most significant first, then the next one's.
-fn row_of(bytes: &[u8]) -> Vec<bool> {
-    bytes.iter().flat_map(|byte| [7, 6, 5, 4, 3, 2, 1, 0].map(|place| byte >> place & 1 == 1)).collect()
+fn row_of(bytes: &[u8]) -> impl Iterator<Item = bool> {
+    bytes.iter().flat_map(|byte| [7, 6, 5, 4, 3, 2, 1, 0].map(|place| byte >> place & 1 == 1))
 }
 
 /// The numbers of so many bits each, taken from the front of the row.
-fn cut<const N: usize>(row: &mut &[bool], widths: [u32; N]) -> [u64; N] {
-    widths.map(|width| {
-        let front = row.split_off(..width as usize).expect("as many bits as the length says");
-        front.iter().fold(0, |number, &bit| 2 * number + u64::from(bit))
-    })
+fn cut<const N: usize>(row: &mut impl Iterator<Item = bool>, widths: [u32; N]) -> [u64; N] {
+    let mut bit = || u64::from(row.next().expect("as many bits as the length says"));
+    widths.map(|width| (0..width).fold(0, |number, _| 2 * number + bit()))
 }
 
 /// The numbers at the end of the row, each in so many bits.
@@ -83,9 +87,36 @@ fn byte(bits: &[bool]) -> u8 {
     (0..8).fold(0, |byte, place| byte << 1 | u8::from(bits.get(place) == Some(&true)))
 }
 
+impl Layout {
+    fn numbered(number: u64) -> Option<Self> {
+        LAYOUTS.into_iter().find(|layout| layout.number == number)
+    }
+
+    /// The bits of key, DSP key, alternate, coverage, confidence and count, behind the layout's number.
+    pub fn header(self) -> [u32; 6] {
+        [KEY_BITS, KEY_BITS, KEY_BITS, PART_BITS, PART_BITS, self.count_bits]
+    }
+
+    /// The bits of a segment's end, key and confidence.
+    pub fn segment(self) -> [u32; 3] {
+        [self.end_bits, KEY_BITS, PART_BITS]
+    }
+
+    /// Bits of a card with so many segments, without those that fill its last byte.
+    pub fn bits_of(self, count: usize) -> usize {
+        let (header, segment): (u32, u32) = (self.header().iter().sum(), self.segment().iter().sum());
+        (LAYOUT_BITS + header) as usize + count * segment as usize
+    }
+
+    /// Bytes of a card with so many segments.
+    pub fn length_of(self, count: usize) -> usize {
+        self.bits_of(count).div_ceil(8)
+    }
+}
+
 impl Segment {
-    fn keeps_ranges(&self) -> bool {
-        self.end <= LAST_END && self.key < MISSING && self.confidence <= WHOLE
+    fn fits(&self, layout: Layout) -> bool {
+        self.end <= layout.last_end && self.key < MISSING && self.confidence <= WHOLE
     }
 }
 
@@ -101,43 +132,51 @@ impl Meaning {
         if bytes.len() < SHORTEST {
             return Err(WRONG_LENGTH);
         }
-        let whole = row_of(bytes);
-        let mut row = &whole[..];
-        let [layout, key, dsp_key, alternate, coverage, confidence, count] = cut(&mut row, HEADER);
-        if layout != LAYOUT {
-            return Err(UNKNOWN_LAYOUT);
-        }
-        if bytes.len() != length_of(count as usize) {
+        let mut row = row_of(bytes);
+        let [number] = cut(&mut row, [LAYOUT_BITS]);
+        let layout = Layout::numbered(number).ok_or(UNKNOWN_LAYOUT)?;
+        let [key, dsp_key, alternate, coverage, confidence, count] = cut(&mut row, layout.header());
+        if bytes.len() != layout.length_of(count as usize) {
             return Err(WRONG_LENGTH);
         }
         let segment = |_| {
-            let [end, key, confidence] = cut(&mut row, SEGMENT);
+            let [end, key, confidence] = cut(&mut row, layout.segment());
             Segment { end, key, confidence }
         };
         let segments = (0..count).map(segment).collect();
         let said = Self { key, dsp_key, alternate, coverage, confidence, segments };
-        if said.keeps_rules() && row.iter().all(|bit| !bit) { Ok(said) } else { Err(RULE_BROKEN) }
+        if !said.fits(layout) || row.any(|bit| bit) {
+            return Err(RULE_BROKEN);
+        }
+        if said.layout() == Some(layout) { Ok(said) } else { Err(NEEDLESS_LAYOUT) }
     }
 
-    /// Its numbers as a row of bits, in bytes, whether they keep the rules or not.
-    pub fn joined(&self) -> Vec<u8> {
+    /// Its numbers as a row of bits, in bytes, whether they keep the rules or not; each has to fit its bits.
+    pub fn joined(&self, layout: Layout) -> Vec<u8> {
         let (mut row, count) = (vec![], self.segments.len() as u64);
         let Self { key, dsp_key, alternate, coverage, confidence, .. } = *self;
-        join(&mut row, HEADER, [LAYOUT, key, dsp_key, alternate, coverage, confidence, count]);
+        join(&mut row, [LAYOUT_BITS], [layout.number]);
+        join(&mut row, layout.header(), [key, dsp_key, alternate, coverage, confidence, count]);
         for Segment { end, key, confidence } in &self.segments {
-            join(&mut row, SEGMENT, [*end, *key, *confidence]);
+            join(&mut row, layout.segment(), [*end, *key, *confidence]);
         }
         row.chunks(8).map(byte).collect()
     }
 
-    /// The card, or none where a rule is broken.
+    /// The card, or none where no layout holds it.
     pub fn card(&self) -> Option<Vec<u8>> {
-        self.keeps_rules().then(|| self.joined())
+        self.layout().map(|layout| self.joined(layout))
     }
 
-    pub fn keeps_rules(&self) -> bool {
-        let segments_fit =
-            self.segments.len() <= MOST_SEGMENTS && self.segments.iter().all(Segment::keeps_ranges);
+    /// The layout of its card.
+    pub fn layout(&self) -> Option<Layout> {
+        LAYOUTS.into_iter().find(|&layout| self.fits(layout))
+    }
+
+    /// Whether it keeps the card rules by this layout's limits.
+    pub fn fits(&self, layout: Layout) -> bool {
+        let segments_fit = self.segments.len() <= layout.most_segments
+            && self.segments.iter().all(|segment| segment.fits(layout));
         segments_fit && self.ends_rise() && self.header_fits()
     }
 

@@ -1,6 +1,7 @@
 //! Key cards written from analyses, beside a packer written from the request.
-use crate::analyses::{self, BREACHES, MOST_SEGMENTS, Told};
-use crate::card_model::Meaning;
+use crate::analyses::{self, BREACHES, Kind, Told, kinds};
+use crate::card_limits::{self, ANALYSES};
+use crate::card_model::{LAYOUT_1, LAYOUT_2, Layout, Meaning};
 use crate::groups::{Groups, compared_as_shown, compared_exactly};
 use bench::inputs::random::patterns;
 use ulyptesh::calls::{TOO_FEW_BYTES, UNWRITABLE, Written, write_card};
@@ -9,11 +10,14 @@ use ulyptesh::calls::{TOO_FEW_BYTES, UNWRITABLE, Written, write_card};
 const STREAM: u64 = 1_000_000;
 const FEW_STREAM: u64 = 1_100_000;
 
-/// Every number of segments so many times.
-const TIMES: usize = 8;
+/// Every number of segments so many times in each layout.
+const TIMES: usize = 4;
+
+/// Most segments where they are few.
+const FEW: usize = 12;
 
 /// So many analyses of every number of segments, of few segments, and for each broken rule.
-pub const OF_EVERY_COUNT: usize = TIMES * (MOST_SEGMENTS + 1);
+pub const OF_EVERY_COUNT: usize = TIMES * (LAYOUT_1.most_segments + 1 + LAYOUT_2.most_segments);
 pub const OF_FEW_SEGMENTS: usize = 100_000;
 const BROKEN: usize = 2_000;
 
@@ -79,35 +83,43 @@ fn theirs(told: &Told) -> Left {
     Left::wanted(told.lent, packed(told))
 }
 
-fn is_writable(told: &Told) -> bool {
-    Meaning::of_analysis(told).is_some_and(|said| said.keeps_rules())
+fn layout(told: &Told) -> Option<Layout> {
+    Meaning::of_analysis(told)?.layout()
 }
 
-fn writable(seed: u64, stream: u64, count: usize) -> Told {
-    let told = analyses::writable(count, &mut patterns(seed, stream));
-    assert!(is_writable(&told), "not writable: {told:?}");
-    told
+/// Analyses by their number, whose cards are of these kinds in turn.
+fn in_turn(seed: u64, stream: u64, kinds: Vec<Kind>) -> impl Fn(usize) -> Told + Sync {
+    move |nth| {
+        let kind = kinds[nth % kinds.len()];
+        let told = analyses::writable(kind, &mut patterns(seed, stream + nth as u64));
+        assert_eq!(layout(&told), Some(kind.0), "{told:?}");
+        told
+    }
 }
 
-/// An analysis of 0 to 1,023 segments.
-pub fn of_every_count(seed: u64, nth: usize) -> Told {
-    writable(seed, STREAM + nth as u64, nth / TIMES)
+/// Analyses of 0 to 4,095 segments.
+pub fn of_every_count(seed: u64) -> impl Fn(usize) -> Told + Sync {
+    in_turn(seed, STREAM, kinds(LAYOUT_2.most_segments))
 }
 
-/// An analysis of 0 to 12 segments.
-pub fn of_few_segments(seed: u64, nth: usize) -> Told {
-    writable(seed, FEW_STREAM + nth as u64, nth % 13)
+/// Analyses of 0 to 12 segments.
+pub fn of_few_segments(seed: u64) -> impl Fn(usize) -> Told + Sync {
+    in_turn(seed, FEW_STREAM, kinds(FEW))
 }
 
 fn expect_none(told: &Told) {
-    assert!(!is_writable(told), "no rule is broken: {told:?}");
+    assert_eq!(layout(told), None, "no rule is broken: {told:?}");
 }
 
 pub fn compare(groups: &mut Groups) {
     let seed = groups.seed;
-    let (every, few) = (|nth| of_every_count(seed, nth), |nth| of_few_segments(seed, nth));
-    groups.shared_group("cards, 0 to 1,023 segments", OF_EVERY_COUNT, every, ours, theirs);
+    let (every, few) = (of_every_count(seed), of_few_segments(seed));
+    groups.shared_group("cards, 0 to 4,095 segments", OF_EVERY_COUNT, every, ours, theirs);
     groups.shared_group("cards, 0 to 12 segments", OF_FEW_SEGMENTS, few, ours, theirs);
+    let limits = card_limits::meanings();
+    let at_limits = |nth| card_limits::analysis(&limits, nth);
+    let name = "cards, counts and last ends at their limits";
+    groups.shared_group(name, ANALYSES * limits.len(), at_limits, ours, theirs);
     for (breach, stream) in BREACHES.iter().zip(100..) {
         let told = analyses::broken(seed, stream, BROKEN, breach).inspect(expect_none);
         let name = format!("cards, {}", breach.rule);

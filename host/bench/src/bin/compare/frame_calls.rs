@@ -1,6 +1,7 @@
 //! Calls for frames, what they leave, and the request's check table over them, written out once more.
 use crate::both_engines::{self, by_both};
 use crate::groups::{Compared, compared_as_shown};
+use crate::packed::LONGEST;
 use crate::sheets::{follows_the_rules, is_made_for};
 use std::sync::Arc;
 use ulyptesh::calls::{FrameRows, FramesResult, Sheet, frames};
@@ -127,7 +128,7 @@ pub fn refusal_of(settings: &Settings, samples: usize) -> Option<u32> {
         (3, !numbers(settings).iter().all(|x| x.is_finite())),
         (13, ![0, 1].contains(&settings.engine.0)),
         (0, is_empty(settings, samples)),
-        (4, samples > 14_400 * settings.rate as usize),
+        (4, samples as u64 > LONGEST * u64::from(settings.rate)),
     ];
     tests.into_iter().find(|&(_, applies)| applies).map(|(number, _)| number)
 }
@@ -185,10 +186,10 @@ pub const BREACHES: [Breach; 35] = [
     Breach { what: "local hop -0", breaks: |asked| asked.settings.local_hop_seconds = -0.0 },
     Breach { what: "local hop below 0", breaks: |asked| asked.settings.local_hop_seconds = -1.0 },
     Breach {
-        what: "a sample more than 14,400 s",
+        what: "a sample more than a day",
         breaks: |asked| {
             asked.settings.rate = 1;
-            asked.samples.resize(14_401, 0.5);
+            asked.samples.resize(LONGEST as usize + 1, 0.5);
         },
     },
     Breach {

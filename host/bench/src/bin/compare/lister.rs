@@ -1,6 +1,7 @@
 //! What the lister prints of its input, beside the request's words.
+use crate::analyses::{Kind, kinds};
 use crate::card_breaches::{BREACHES, broken, good};
-use crate::card_model::listing;
+use crate::card_model::{LAYOUT_1, LAYOUT_2, LAYOUTS, Layout, Meaning, listing};
 use crate::card_reads::{ROW_O, ROW_P, largest};
 use crate::groups::Groups;
 use crate::tool_runs::{Folder, output_on, output_on_endless, programs, text};
@@ -12,6 +13,14 @@ use ulyptesh::calls::LONGEST_CARD;
 
 /// Streams of the seed from here on.
 const STREAM: u64 = 290_000;
+
+/// Cards have every number of segments up to so many in either layout, and these.
+const SOME: usize = 39;
+#[rustfmt::skip]
+const MANY: [Kind; 9] = [
+    (LAYOUT_1, 100), (LAYOUT_1, 500), (LAYOUT_1, 1_022), (LAYOUT_1, 1_023),
+    (LAYOUT_2, 500), (LAYOUT_2, 1_023), (LAYOUT_2, 1_024), (LAYOUT_2, 4_094), (LAYOUT_2, 4_095),
+];
 
 /// The program, where it was built.
 pub fn program() -> Option<PathBuf> {
@@ -46,17 +55,23 @@ pub fn listed(program: &Path, bytes: &[u8]) -> String {
     printed(&output_on(command(program), [bytes]))
 }
 
-/// Cards of any number of segments, the largest, rows o and p, and each rule broken.
-pub fn cards(seed: u64) -> impl Iterator<Item = Vec<u8>> {
-    let counts = (0..40).chain([100, 500, 1_022, 1_023]);
-    let whole = counts.zip(STREAM..).map(move |(count, stream)| good(seed, stream, count));
-    let whole = whole.chain([largest()]).map(|said| said.joined()).chain([ROW_O.to_vec(), ROW_P.to_vec()]);
+/// Cards of this layout, the largest and each rule broken among them.
+fn cards_of(layout: Layout, seed: u64) -> impl Iterator<Item = Vec<u8>> {
+    let kinds = kinds(SOME).into_iter().chain(MANY).filter(move |kind| kind.0 == layout);
+    let whole = kinds.zip(STREAM..).map(move |(kind, stream)| good(seed, stream, kind));
     let breached = BREACHES.iter().zip(STREAM..);
-    whole.chain(breached.map(move |(breach, stream)| broken(seed, stream, breach).0.joined()))
+    let breached = breached.map(move |(breach, stream)| broken(seed, stream, layout, breach).0);
+    whole.chain([largest(layout)]).chain(breached).map(move |said| said.joined(layout))
 }
 
-/// Bytes that are no card: of every small length, of every other layout, longer than the card and than any card, and
-/// with a filler bit.
+/// Cards of any number of segments in either layout, and rows o and p.
+pub fn cards(seed: u64) -> impl Iterator<Item = Vec<u8>> {
+    let in_layouts = LAYOUTS.into_iter().flat_map(move |layout| cards_of(layout, seed));
+    in_layouts.chain([ROW_O.to_vec(), ROW_P.to_vec()])
+}
+
+/// Bytes that are no card: of every small length, of every other layout, longer than the card and than any card, with a
+/// filler bit, and in layout 2 without need.
 pub fn no_cards() -> impl Iterator<Item = Vec<u8>> {
     let cut = (0..ROW_O.len()).map(|length| ROW_O[..length].to_vec());
     let layouts = (0..16).filter(|&layout| layout != 1);
@@ -64,13 +79,16 @@ pub fn no_cards() -> impl Iterator<Item = Vec<u8>> {
     let lengths = [1, LONGEST_CARD - ROW_O.len(), LONGEST_CARD + 1 - ROW_O.len(), LONGEST_CARD, 1 << 20];
     let longer = lengths.map(|more| [&ROW_O[..], &vec![0; more]].concat());
     let filled = [0x01, 0x40].map(|bit| [&ROW_P[..ROW_P.len() - 1], &[bit]].concat());
-    let above_largest = [&largest().joined()[..], &[0]].concat();
-    cut.chain(layouts).chain(longer).chain(filled).chain([above_largest, vec![0xff; 1 << 16]])
+    let above_largest = LAYOUTS.map(|layout| [&largest(layout).joined(layout)[..], &[0]].concat());
+    let needless = [Meaning::empty(), largest(LAYOUT_1)].map(|said| said.joined(LAYOUT_2));
+    let others = above_largest.into_iter().chain(needless).chain([vec![0xff; 1 << 16]]);
+    cut.chain(layouts).chain(longer).chain(filled).chain(others)
 }
 
 /// What stands before the zeros of an endless input.
-pub fn endless_fronts() -> [Vec<u8>; 5] {
-    [vec![], ROW_O.to_vec(), ROW_P.to_vec(), largest().joined(), vec![0xff; LONGEST_CARD + 1]]
+pub fn endless_fronts() -> [Vec<u8>; 6] {
+    let [one, two] = LAYOUTS.map(|layout| largest(layout).joined(layout));
+    [vec![], ROW_O.to_vec(), ROW_P.to_vec(), one, two, vec![0xff; LONGEST_CARD + 1]]
 }
 
 /// What is printed of such an input: more zeros than a card has bytes tell all.
@@ -100,7 +118,8 @@ pub fn compare(groups: &mut Groups) {
     groups.group("the lister on cards", cards(seed), on, wanted);
     groups.group("the lister on no cards", no_cards(), on, wanted);
     groups.group("the lister, byte by byte", rows.iter().map(|row| row.0.clone()), by_byte, wanted);
-    groups.group("the lister, part by part", [largest().joined()].into_iter(), by_part, wanted);
+    let largest = LAYOUTS.into_iter().map(|layout| largest(layout).joined(layout));
+    groups.group("the lister, part by part", largest, by_part, wanted);
     let on_endless =
         |front: Vec<u8>| output_on_endless(command(&program), &front).map(|ended| printed(&ended));
     let stops = |front: Vec<u8>| Some(endless_listing(&front));

@@ -13,7 +13,9 @@ mod block_tracks;
 mod both_engines;
 mod card_breaches;
 mod card_calls;
+mod card_limits;
 mod card_model;
+mod card_orders;
 mod card_random;
 mod card_reads;
 mod card_rounds;
@@ -80,6 +82,7 @@ mod tool_forms;
 mod tool_inputs;
 mod tool_json;
 mod tool_libraries;
+mod tool_memory;
 mod tool_outputs;
 mod tool_pictures;
 mod tool_refusals;
@@ -131,7 +134,7 @@ macro_rules! beside_oracle {
     };
 }
 
-const TOPICS: [Topic; 41] = [
+const TOPICS: [Topic; 42] = [
     alone!(numbers),
     alone!(orders),
     alone!(key_names),
@@ -171,6 +174,7 @@ const TOPICS: [Topic; 41] = [
     alone!(tool_json),
     alone!(tool_cards),
     alone!(tool_libraries),
+    alone!(tool_memory),
     alone!(tool_pictures),
     beside_oracle!(tool_tracks),
 ];

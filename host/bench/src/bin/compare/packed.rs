@@ -8,7 +8,7 @@ use bench::probe::{probe_milliseconds, probe_thousandths};
 pub const REFUSED: u64 = u64::MAX;
 
 /// The longest track, in seconds.
-pub const LONGEST: u64 = 14_400;
+pub const LONGEST: u64 = 86_400;
 
 /// So many random numbers of each kind.
 const RANDOM: usize = 1 << 20;

@@ -1,8 +1,9 @@
 //! Key cards written from packed numbers, beside a packer written from the request; and what is written, read back.
-use crate::analyses::{LAST_END, MOST_SEGMENTS};
+use crate::analyses::{Kind, kinds};
 use crate::card_breaches::{BREACHES, between, broken, good};
 use crate::card_calls::{Read, Reading, Rows, Writing};
-use crate::card_model::{HEADER, SEGMENT, length_of};
+use crate::card_limits::{self, WRITINGS};
+use crate::card_model::{KEY_BITS, LAYOUT_1, LAYOUT_2, LAYOUTS, PART_BITS};
 use crate::cards;
 use crate::groups::Groups;
 use bench::inputs::dice::Dice;
@@ -22,8 +23,9 @@ const PARTS: [u32; 8] = [0, 1, 999, 1_000, 1_001, 1_023, 1_024, u32::MAX];
 
 /// A segment's numbers, likewise.
 #[rustfmt::skip]
-const ENDS: [u32; 12] = [
-    0, 1, 2, 14_399_999, 14_400_000, 14_400_001, 16_777_215, 16_777_216, 16_777_217, 31_177_216, u32::MAX - 1, u32::MAX,
+const ENDS: [u32; 19] = [
+    0, 1, 2, 14_399_999, 14_400_000, 14_400_001, 16_777_215, 16_777_216, 16_777_217, 31_177_216, 86_399_999, 86_400_000,
+    86_400_001, 134_217_727, 134_217_728, 134_217_729, 220_617_728, u32::MAX - 1, u32::MAX,
 ];
 const SEGMENT_KEYS: [u8; 8] = [0, 23, 24, 25, 31, 32, 55, 255];
 const CONFIDENCES: [u16; 9] = [0, 999, 1_000, 1_001, 1_023, 1_024, 2_024, 32_768, u16::MAX];
@@ -50,17 +52,17 @@ fn compare_writings(groups: &mut Groups, name: &str, count: usize, nth: impl Fn(
     groups.shared_group(&format!("packed cards, {name}"), count, nth, ours, theirs);
 }
 
-/// Just enough bytes, one too few, more, or any fewer.
-fn lent_for(dice: &mut Dice, segments: usize) -> usize {
-    let needed = length_of(segments);
+/// Just enough bytes for a card of this kind, one too few, more, or any fewer.
+fn lent_for(dice: &mut Dice, (layout, segments): Kind) -> usize {
+    let needed = layout.length_of(segments);
     let fewer = dice.below(needed);
     dice.one_of(&[needed, needed - 1, needed + 5, fewer])
 }
 
 /// Good numbers.
-fn writable(seed: u64, stream: u64, segments: usize) -> Writing {
-    let lent = lent_for(&mut Dice::new(seed, stream), segments);
-    let writing = Writing::of(&good(seed, stream, segments), lent);
+fn writable(seed: u64, stream: u64, kind: Kind) -> Writing {
+    let lent = lent_for(&mut Dice::new(seed, stream), kind);
+    let writing = Writing::of(&good(seed, stream, kind), lent);
     assert!(writing.card().is_some(), "not writable: {writing:?}");
     writing
 }
@@ -90,34 +92,34 @@ fn set_end(rows: &mut Rows, at: usize, end: u32) {
 
 /// More segments than a card has, all else in order.
 fn lengthen(writing: &mut Writing, dice: &mut Dice) {
-    let count = (MOST_SEGMENTS + 1 + dice.below(3)) as u32;
+    let count = (LAYOUT_2.most_segments + 1 + dice.below(3)) as u32;
     let (starts, ends) = ((0..count).collect(), (1..=count).collect());
     let (keys, confidences) = (vec![3; count as usize], vec![500; count as usize]);
     writing.rows = Rows { starts, ends, keys, confidences };
-    writing.lent = length_of(count as usize);
+    writing.lent = LAYOUT_2.length_of(count as usize);
 }
 
 /// Numbers too large for their field, whose front bits alone are wrong; starts; lengths.
 const SPOILINGS: [Spoiling; 15] = [
     Spoiling {
         what: "key beyond its field",
-        spoils: |writing, dice| writing.key = beyond(dice, writing.key, HEADER[1]),
+        spoils: |writing, dice| writing.key = beyond(dice, writing.key, KEY_BITS),
     },
     Spoiling {
         what: "DSP key beyond its field",
-        spoils: |writing, dice| writing.dsp_key = beyond(dice, writing.dsp_key, HEADER[2]),
+        spoils: |writing, dice| writing.dsp_key = beyond(dice, writing.dsp_key, KEY_BITS),
     },
     Spoiling {
         what: "alternate beyond its field",
-        spoils: |writing, dice| writing.alternate = beyond(dice, writing.alternate, HEADER[3]),
+        spoils: |writing, dice| writing.alternate = beyond(dice, writing.alternate, KEY_BITS),
     },
     Spoiling {
         what: "coverage beyond its field",
-        spoils: |writing, dice| writing.coverage = beyond(dice, writing.coverage, HEADER[4]),
+        spoils: |writing, dice| writing.coverage = beyond(dice, writing.coverage, PART_BITS),
     },
     Spoiling {
         what: "confidence beyond its field",
-        spoils: |writing, dice| writing.confidence = beyond(dice, writing.confidence, HEADER[5]),
+        spoils: |writing, dice| writing.confidence = beyond(dice, writing.confidence, PART_BITS),
     },
     Spoiling {
         what: "keys beyond a byte or two",
@@ -129,10 +131,10 @@ const SPOILINGS: [Spoiling; 15] = [
         },
     },
     Spoiling {
-        what: "an end beyond its field",
+        what: "an end beyond its field in either layout",
         spoils: |writing, dice| {
             let at = place(writing, dice);
-            let end = beyond(dice, writing.rows.ends[at], SEGMENT[0]);
+            let end = beyond(dice, writing.rows.ends[at], LAYOUT_2.end_bits);
             set_end(&mut writing.rows, at, end);
         },
     },
@@ -140,14 +142,14 @@ const SPOILINGS: [Spoiling; 15] = [
         what: "a segment's key beyond its field",
         spoils: |writing, dice| {
             let at = place(writing, dice);
-            writing.rows.keys[at] |= 1 << (SEGMENT[1] as usize + dice.below(3));
+            writing.rows.keys[at] |= 1 << (KEY_BITS as usize + dice.below(3));
         },
     },
     Spoiling {
         what: "a segment's confidence beyond its field",
         spoils: |writing, dice| {
             let at = place(writing, dice);
-            writing.rows.confidences[at] |= 1 << (SEGMENT[2] as usize + dice.below(6));
+            writing.rows.confidences[at] |= 1 << (PART_BITS as usize + dice.below(6));
         },
     },
     Spoiling {
@@ -186,19 +188,20 @@ const SPOILINGS: [Spoiling; 15] = [
             let rows = &mut writing.rows;
             match dice.below(4) {
                 0 => rows.starts.extend(rows.ends.last().copied()),
-                1 => rows.ends.push(LAST_END as u32),
+                1 => rows.ends.push(LAYOUT_2.last_end as u32),
                 2 => rows.keys.push(0),
                 _ => rows.confidences.push(0),
             }
         },
     },
-    Spoiling { what: "1,024 segments and more", spoils: lengthen },
+    Spoiling { what: "4,096 segments and more", spoils: lengthen },
 ];
 
-/// Good numbers of 2 to 12 segments, spoilt.
+/// Good numbers of 2 to 12 segments for a card of either layout, spoilt.
 fn spoilt(seed: u64, stream: u64, spoiling: &Spoiling) -> Writing {
     let mut dice = Dice::new(seed, stream);
-    let mut writing = writable(seed, stream, 2 + dice.below(11));
+    let kind = (dice.one_of(&LAYOUTS), 2 + dice.below(11));
+    let mut writing = writable(seed, stream, kind);
     (spoiling.spoils)(&mut writing, &mut dice);
     assert!(writing.card().is_none(), "no rule is broken: {writing:?}");
     writing
@@ -208,8 +211,8 @@ fn compare_refused(groups: &mut Groups) {
     let seed = groups.seed;
     for (breach, first) in BREACHES.iter().zip((BROKEN_STREAM..).step_by(BROKEN)) {
         compare_writings(groups, breach.rule, BROKEN, |nth| {
-            let (said, mut dice) = broken(seed, first + nth as u64, breach);
-            Writing::of(&said, lent_for(&mut dice, said.segments.len()))
+            let (said, mut dice) = broken(seed, first + nth as u64, LAYOUT_2, breach);
+            Writing::of(&said, lent_for(&mut dice, (LAYOUT_2, said.segments.len())))
         });
     }
     for (spoiling, first) in SPOILINGS.iter().zip((SPOILT_STREAM..).step_by(BROKEN)) {
@@ -230,14 +233,18 @@ fn rows(count: u32) -> Rows {
     Rows { starts: (0..count).collect(), ends: (1..=count).collect(), keys, confidences }
 }
 
-/// The header's numbers, each choice of all lists, with and without a segment.
-const HEADERS: usize = KEYS.len().pow(3) * PARTS.len().pow(2) * 2;
+/// The header's numbers, each choice of all lists, without a segment, with one, and with one that layout 2 alone holds.
+const HEADERS: usize = KEYS.len().pow(3) * PARTS.len().pow(2) * 3;
 
 fn header_at_limits(mut nth: usize) -> Writing {
     let [key, dsp_key, alternate] = [0; 3].map(|_| chosen(&mut nth, &KEYS));
     let [coverage, confidence] = [0; 2].map(|_| chosen(&mut nth, &PARTS));
-    let rows = rows(nth as u32);
-    Writing { key, dsp_key, alternate, coverage, confidence, rows, lent: length_of(nth) }
+    let mut rows = rows(nth.min(1) as u32);
+    if nth == 2 {
+        set_end(&mut rows, 0, LAYOUT_1.last_end as u32 + 1);
+    }
+    let lent = LAYOUT_2.length_of(rows.ends.len());
+    Writing { key, dsp_key, alternate, coverage, confidence, rows, lent }
 }
 
 /// The numbers of a lone segment, and of the second of three.
@@ -253,16 +260,19 @@ fn segment_at_limits(mut nth: usize) -> Writing {
         *last = end.saturating_add(1);
     }
     (rows.keys[at], rows.confidences[at]) = (key, confidence);
-    let lent = length_of(count as usize);
+    let lent = LAYOUT_2.length_of(count as usize);
     Writing { key: 0, dsp_key: 0, alternate: 24, coverage: 0, confidence: 0, rows, lent }
 }
 
 pub fn compare(groups: &mut Groups) {
     let seed = groups.seed;
-    let counted = |nth: usize| writable(seed, STREAM + nth as u64, nth % (MOST_SEGMENTS + 1));
-    compare_writings(groups, "0 to 1,023 segments", 2 * (MOST_SEGMENTS + 1), counted);
-    let few = |nth: usize| writable(seed, STREAM + nth as u64, nth % 13);
-    compare_writings(groups, "0 to 12 segments", FEW, few);
+    let (every, few) = (kinds(LAYOUT_2.most_segments), kinds(12));
+    let of = |kinds: &[Kind], nth: usize| writable(seed, STREAM + nth as u64, kinds[nth % kinds.len()]);
+    compare_writings(groups, "0 to 4,095 segments", 2 * every.len(), |nth| of(&every, nth));
+    compare_writings(groups, "0 to 12 segments", FEW, |nth| of(&few, nth));
+    let limits = card_limits::meanings();
+    let at_limits = |nth| card_limits::writing(&limits, nth);
+    compare_writings(groups, "counts and last ends at their limits", WRITINGS * limits.len(), at_limits);
     compare_writings(groups, "header numbers at their limits", HEADERS, header_at_limits);
     compare_writings(groups, "a segment's numbers at their limits", SEGMENTS, segment_at_limits);
     compare_refused(groups);

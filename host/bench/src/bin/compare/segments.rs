@@ -120,7 +120,7 @@ const KINDS: [(&str, usize, Maker); 7] = [
         let track = tracks.regular();
         tracks.without_room(track)
     }),
-    ("a hop that is not above 0", 200, |tracks| {
+    ("a hop that is not above 0", 100, |tracks| {
         let track = tracks.without_hop();
         tracks.with_room(track)
     }),
@@ -128,7 +128,7 @@ const KINDS: [(&str, usize, Maker); 7] = [
         let track = tracks.in_order();
         tracks.with_room(track)
     }),
-    ("tracks of 14,400 s", 150, |tracks| {
+    ("tracks of a day", 40, |tracks| {
         let track = tracks.longest();
         tracks.with_room(track)
     }),

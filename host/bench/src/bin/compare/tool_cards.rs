@@ -148,6 +148,11 @@ fn segment_object((start, part): (u64, &Segment)) -> Json {
     )
 }
 
+/// The first four bits.
+fn layout_of(bytes: &[u8]) -> u64 {
+    bytes.first().map_or(0, |first| u64::from(first / 16))
+}
+
 /// The object of a card, as docs/JSON.md has it.
 fn object(file: &str, bytes: &[u8]) -> Json {
     let (said, refusal) = match Meaning::read(bytes) {
@@ -162,6 +167,7 @@ fn object(file: &str, bytes: &[u8]) -> Json {
             field("version", number(1)),
             field("file", Json::Text(file.into())),
             field("refusal", refusal),
+            field("layout", or_null(layout_of(bytes), is_card)),
             field("duration_ms", or_null(last, is_card)),
             key_fields(&["key", "key_number", "camelot"], said.key),
             key_fields(&["dsp_key", "dsp_key_number"], said.dsp_key),
@@ -191,24 +197,56 @@ fn compare_json(groups: &mut Groups, files: &[Vec<u8>]) {
     groups.group("the tool's cards as JSON", 0..forms.len(), ours, wanted);
 }
 
+/// A tone by so many samples and its loudness, with words for it; the layout of its card, and where that ends.
+struct Written {
+    words: &'static str,
+    samples: usize,
+    loudness: f32,
+    layout: u64,
+    end: u64,
+}
+
+/// Words for a short track, and for few frames of a long one at a low rate.
+const SHORT: &str = "analyse track --card new --rate 8000";
+const LONG: &str = "analyse track --card new --rate 64 --notes 10-21 --frame-size 32 --hop-size 20000";
+
+/// Two seconds, and of silence; four hours, and a sample more; a day.
+const WRITTEN: [Written; 5] = [
+    Written { words: SHORT, samples: 16_000, loudness: 1.0, layout: 1, end: 2_000 },
+    Written { words: SHORT, samples: 16_000, loudness: 0.0, layout: 1, end: 0 },
+    Written { words: LONG, samples: 64 * 14_400, loudness: 1.0, layout: 1, end: 14_400_000 },
+    Written { words: LONG, samples: 64 * 14_400 + 1, loudness: 1.0, layout: 2, end: 14_400_015 },
+    Written { words: LONG, samples: 64 * 86_400, loudness: 1.0, layout: 2, end: 86_400_000 },
+];
+
+/// The card that the tool writes of a track.
+fn card_written(track: &Written) -> Vec<u8> {
+    let folder = Folder::new("tool-cards");
+    let samples = (0..track.samples).map(|place| track.loudness * (place as f32 * 0.2).sin());
+    folder.put_samples("track", &samples.collect::<Vec<_>>());
+    let ended = folder.run(&track.words.split_whitespace().collect::<Vec<_>>());
+    assert!(ended.status.success(), "a track that is analysed");
+    folder.read("new").expect("a card that was written")
+}
+
 /// From samples to a card, and from the card to what it says.
 fn compare_written(groups: &mut Groups) {
     let folder = Folder::new("tool-cards");
-    let tone: Vec<f32> = (0..16_000).map(|place| (place as f32 * 0.2).sin()).collect();
-    folder.put_samples("tone", &tone);
-    folder.put_samples("silence", &[0.0; 16_000]);
-    let tracks = ["tone", "silence"];
-    let written = |nth: usize| {
-        let words = ["analyse", tracks[nth], "--rate", "8000", "--card", "new"];
-        assert!(folder.run(&words).status.success(), "a track that is analysed");
-        folder.read("new").expect("a card that was written")
-    };
+    let cards: Vec<Vec<u8>> = WRITTEN.iter().map(card_written).collect();
+    cards.iter().enumerate().for_each(|(nth, bytes)| folder.put(&file_name(nth), bytes));
     let ours = |nth: usize| {
-        let bytes = written(nth);
-        shown(&folder, || folder.run(&["card", "new"]), &message("new", &bytes))
+        let name = file_name(nth);
+        shown(&folder, || folder.run(&["card", &name]), &message(&name, &cards[nth]))
     };
-    let listed = |nth: usize| wanted(listing(&written(nth)), 0);
-    groups.group("the tool's cards of analyses", 0..tracks.len(), ours, listed);
+    let listed = |nth: usize| wanted(listing(&cards[nth]), 0);
+    groups.group("the tool's cards of analyses", 0..cards.len(), ours, listed);
+    let told = |nth: usize| {
+        let ended = folder.run(&["card", &file_name(nth), "--json"]);
+        let told = objects(&text(&ended.stdout), "--json");
+        ["layout", "duration_ms"].map(|name| told.first().and_then(|told| told.field(name)).cloned())
+    };
+    let wanted = |nth: usize| [WRITTEN[nth].layout, WRITTEN[nth].end].map(|told| Some(number(told)));
+    groups.group("layout and end of the tool's cards", 0..cards.len(), told, wanted);
 }
 
 pub fn compare(groups: &mut Groups) {

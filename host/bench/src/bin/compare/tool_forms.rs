@@ -12,7 +12,7 @@ use ulyptesh::{Key, Notation};
 type Case = (&'static str, i32, &'static str);
 
 /// The track is a tone on A; silence has no key.
-const CASES: [Case; 21] = [
+const CASES: [Case; 23] = [
     ("analyse tone --rate 8000 --key-only", 0, "A minor\n"),
     ("analyse tone --rate 8000 --key-only --notation sharps", 0, "A minor\n"),
     ("analyse tone --rate 8000 --key-only --notation camelot", 0, "8A\n"),
@@ -33,6 +33,8 @@ const CASES: [Case; 21] = [
     ("card o --notation camelot", 0, "8A\n0 180000 8A\n"),
     ("card --notation=open-key -- o", 0, "1m\n0 180000 1m\n"),
     ("card p o", 0, "p:\nno key\no:\nA minor\n0 180000 A minor\n"),
+    ("card needless", 1, "refused 23\n"),
+    ("analyse day --rate 1 --frame-size 32", 0, "day: no key in 86400.00 s, 0 loud frames\n"),
     ("card o silent p", 1, "o:\nA minor\n0 180000 A minor\nsilent:\nrefused 21\np:\nno key\n"),
 ];
 
@@ -103,6 +105,8 @@ fn filled() -> Folder {
     folder.put_samples("silent", &[0.0; 16_000]);
     folder.put("o", &ROW_O);
     folder.put("p", &ROW_P);
+    folder.put("needless", &[&[0x2C], &ROW_P[1..]].concat());
+    folder.put_samples("day", &[0.0; 86_400]);
     folder.put_samples("bell\u{7}\u{1b}[31m", &[0.0; 16_000]);
     folder
 }

@@ -82,8 +82,8 @@ const CARD_WITHOUT_KEY: &[&str] = &[
 
 #[rustfmt::skip]
 const NO_CARD: &[&str] = &[
-    "duration_ms", "key", "key_number", "camelot", "dsp_key", "dsp_key_number", "confidence_thousandths", "alternate",
-    "alternate_number", "alternate_camelot", "coverage_thousandths",
+    "layout", "duration_ms", "key", "key_number", "camelot", "dsp_key", "dsp_key_number", "confidence_thousandths",
+    "alternate", "alternate_number", "alternate_camelot", "coverage_thousandths",
 ];
 
 const fn of_tracks(words: &'static str, objects: usize, nulls: &'static [&'static str]) -> Run {

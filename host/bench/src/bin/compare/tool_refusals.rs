@@ -73,7 +73,7 @@ const WORDS: [Case; 38] = [
 ];
 
 /// Settings: each option with a word that it does not take, and what the library does not take.
-const SETTINGS: [Case; 28] = [
+const SETTINGS: [Case; 27] = [
     bad_usage("analyse good --rate 8000 --window wide", "'wide' is not a number of seconds"),
     bad_usage("analyse good --rate 8000 --local-hop high", "'high' is not a number of seconds"),
     bad_usage("analyse good --rate 8000 --segment-confidence 1.5", "'1.5' is not a part"),
@@ -101,7 +101,6 @@ const SETTINGS: [Case; 28] = [
     refused("key-at good 1 --rate 8000 --engine 4294967295", "the engine, 4294967295, is neither 0 nor 1"),
     refused("analyse good --rate 8000 --engine 2 --local-hop 0.1 --hop-size 0", "(refusal 13)"),
     refused("analyse good --rate 8000 --local-hop 0.4999", "(refusal 5)"),
-    refused("analyse good --rate 1 --frame-size 14401", "a frame is longer than four hours"),
     refused("analyse good --rate 8000 --frame-size 31", "a frame has fewer than 32 samples"),
     refused("analyse good --rate 8000 --hop-size 0", "the hop is 0"),
     refused("analyse good --rate 8000 --notes 95-36", "the lowest note is above the highest"),
@@ -146,7 +145,7 @@ const FILES: [Case; 46] = [
     refused("analyse spoilt --rate 8000 --json", "(refusal 9)"),
     refused(
         "analyse long --rate 1 --frame-size 32 --card new",
-        "16000 samples at 1 Hz are more than four hours (refusal 4)",
+        "86401 samples at 1 Hz are more than 24 hours (refusal 4)",
     ),
     refused("analyse good --rate 8000 --card new --svg nowhere/new", "nowhere/new: "),
     refused("analyse good --rate 8000 --svg new --card nowhere/new", "nowhere/new: "),
@@ -204,7 +203,7 @@ fn filled() -> Folder {
     folder.put_samples("good.card", &tone);
     folder.put_samples("silent", &[0.0; 16_000]);
     folder.put_samples("spoilt", &[1e25; 16_000]);
-    folder.put_samples("long", &[0.0; 16_000]);
+    folder.put_samples("long", &[0.0; 86_401]);
     folder.put("odd", &[0; 16_001]);
     folder.put("old", b"old");
     folder.put("empty", b"");

@@ -48,6 +48,11 @@ impl Folder {
         fs::write(self.0.join(name), content).expect("a file is written");
     }
 
+    /// So many zeros, which take no room on the disk.
+    pub fn put_zeros(&self, name: &str, length: u64) {
+        self.create(name).set_len(length).expect("a file with a gap");
+    }
+
     pub fn read(&self, name: &str) -> Option<Vec<u8>> {
         fs::read(self.0.join(name)).ok()
     }
@@ -102,6 +107,14 @@ impl Folder {
     pub fn command(&self, words: &[impl AsRef<OsStr>]) -> Command {
         let mut command = Command::new(programs().join("ulyptesh"));
         command.current_dir(&self.0).args(words);
+        command
+    }
+
+    /// The same, with so many kibibytes of memory.
+    pub fn command_within(&self, kibibytes: u32, words: &[impl AsRef<OsStr>]) -> Command {
+        let mut command = Command::new("sh");
+        command.args(["-c", "ulimit -v \"$0\" && exec \"$@\"", &kibibytes.to_string()]);
+        command.current_dir(&self.0).arg(programs().join("ulyptesh")).args(words);
         command
     }
 

@@ -1,9 +1,10 @@
-//! Whole analyses at the edges: the longest track, the least hop, the least frame, a sheet for another rate, no
-//! loud frame, faint medians, what the check table lets through.
+//! Whole analyses at the edges: the longest track, days of more than 2^32 samples, the least hop, the least frame, a
+//! sheet for another rate, no loud frame, faint medians, what the check table lets through.
 use crate::analysis_calls::Asked;
 use crate::analysis_left::ours;
 use crate::frame_calls::settings;
 use crate::groups::Groups;
+use crate::packed::LONGEST;
 use crate::refusals::{of_analyses, of_rooms};
 use crate::their_analyses::{their_analysis, theirs};
 use bench::inputs::dice::Dice;
@@ -32,23 +33,42 @@ fn tone(length: usize, step: f32) -> Vec<f32> {
     (0..length).map(|place| (2.0 * PI * step * place as f32).sin()).collect()
 }
 
-/// 14,400 s, a sample less and a sample more, at the most windows and at few; the key changes now and then.
-fn longest(seed: u64) -> Vec<Asked> {
-    let settings = settings(64, (10, 21), 32, 5_000);
-    let mut maker = Maker { dice: Dice::new(seed, STREAM + 1), rate: settings.rate };
-    let samples = (kind("key change").make)(&mut maker, 14_400 * 64 + 1);
-    let lengths = [1, 0, 2].map(|less| samples.len() - less);
-    let tracks = [0.5, 6.0].into_iter().flat_map(|hop| lengths.map(|length| (hop, length)));
-    tracks
-        .map(|(local_hop_seconds, length)| {
-            let settings = settings.with(|settings| {
+/// So many samples a second of a long track.
+const LOW_RATE: u32 = 64;
+
+/// A day and a sample, in which the key changes now and then.
+fn day(seed: u64) -> Vec<f32> {
+    let mut maker = Maker { dice: Dice::new(seed, STREAM + 1), rate: LOW_RATE };
+    (kind("key change").make)(&mut maker, (LONGEST * u64::from(LOW_RATE)) as usize + 1)
+}
+
+/// The front of a track up to so many seconds, a sample more and a sample less: at the most windows, with short segments
+/// joined, and at few, with none joined.
+fn about(what: &'static str, seconds: u64, track: &[f32]) -> Vec<Asked> {
+    let length = (seconds * u64::from(LOW_RATE)) as usize;
+    let lengths = [length, length + 1, length - 1];
+    let calls =
+        [(0.5, 100.0), (6.0, 0.0)].into_iter().flat_map(|asked| lengths.map(|length| (asked, length)));
+    calls
+        .map(|((local_hop_seconds, minimum_segment_seconds), length)| {
+            let settings = settings(LOW_RATE, (10, 21), 32, 3_000).with(|settings| {
                 settings.local_hop_seconds = local_hop_seconds;
                 settings.segment_confidence_threshold = 0.0;
-                settings.minimum_segment_seconds = 100.0;
+                settings.minimum_segment_seconds = minimum_segment_seconds;
             });
-            asked("about 14,400 s", settings, samples[..length].to_vec())
+            asked(what, settings, track[..length].to_vec())
         })
         .collect()
+}
+
+/// A second or less, about as many samples as a day has more than 2^32, or than two or three times as many.
+fn beyond_32_bits() -> Vec<Asked> {
+    let rates = (1..=3).map(|times: u64| (times << 32).div_ceil(LONGEST));
+    let calls = rates.flat_map(|rate| {
+        let more = (LONGEST * rate) as u32 as usize;
+        [more - 1, more, more + 1].map(|length| (settings(rate as u32, (60, 72), 1_024, 4_096), length))
+    });
+    calls.map(|(settings, length)| asked("a day of more than 2^32", settings, tone(length, 0.01))).collect()
 }
 
 /// A local hop of half a second, beside it, and of the smallest f32.
@@ -138,9 +158,18 @@ fn lone_segments(seed: u64) -> Vec<Asked> {
 }
 
 pub fn compare(groups: &mut Groups) {
-    let seed = groups.seed;
-    let edges: [(&str, Vec<Asked>); 9] = [
-        ("about 14,400 s", longest(seed)),
+    let (seed, day) = (groups.seed, day(groups.seed));
+    let about_a_day = about("about a day", LONGEST, &day);
+    assert_eq!(about_a_day[0].rows[0], 172_777, "a window of 12 s every half second");
+    assert_eq!(
+        [0, 1, 2].map(|nth| about_a_day[nth].refusal()),
+        [None, Some(4), None],
+        "a day, and a sample more"
+    );
+    let edges: [(&str, Vec<Asked>); 11] = [
+        ("about a day", about_a_day),
+        ("about 14,400 s", about("about 14,400 s", 14_400, &day)),
+        ("a day of more than 2^32 samples", beyond_32_bits()),
         ("about the least local hop", least_hops()),
         ("about the least frame", least_frames()),
         ("sheets for another rate", other_rates()),

@@ -3,6 +3,7 @@
 use crate::analyses::Told;
 use crate::analysis_calls::Asked;
 use crate::analysis_left;
+use crate::card_model::LAYOUT_1;
 use crate::card_rounds;
 use crate::frame_calls::settings;
 use crate::groups::{Groups, compared_exactly};
@@ -26,8 +27,8 @@ const USUAL_RATES: [u32; 14] = [
     8_000, 11_025, 12_000, 16_000, 22_050, 24_000, 32_000, 44_100, 48_000, 64_000, 88_200, 96_000, 176_400, 192_000,
 ];
 
-/// So many milliseconds of each kind, the first ones, any and the last ones, and so many places from which a track a
-/// hair below one is looked for.
+/// So many milliseconds of each kind, the first ones, any, those about the last of layout 1 and the last ones, and so
+/// many places from which a track a hair below one is looked for.
 const MILLISECONDS: u64 = 30;
 const PLACES: usize = 12;
 
@@ -72,7 +73,8 @@ fn hair_below(rate: u32, samples: u64) -> u64 {
 fn lengths(seed: u64, rate: u32) -> impl Iterator<Item = Length> {
     let (mut dice, last) = (Dice::new(seed, STREAM + u64::from(rate)), 1000 * LONGEST);
     let any: Vec<u64> = (0..MILLISECONDS).map(|_| 1 + dice.below(last as usize) as u64).collect();
-    let milliseconds = (1..=MILLISECONDS).chain(any).chain(last - MILLISECONDS + 1..=last);
+    let about = LAYOUT_1.last_end - MILLISECONDS / 2..LAYOUT_1.last_end + MILLISECONDS / 2;
+    let milliseconds = (1..=MILLISECONDS).chain(any).chain(about).chain(last - MILLISECONDS + 1..=last);
     let longest = (LONGEST * u64::from(rate)) as usize;
     let hairs: Vec<u64> = (0..PLACES).map(|_| hair_below(rate, dice.below(longest) as u64)).collect();
     let before = milliseconds.map(|n| last_before(rate, n)).chain(hairs);

@@ -1,8 +1,9 @@
 //! The local windows of a track, and the rows that are asked for them.
+use crate::packed::LONGEST;
 use bench::probe::segments::Track;
 
 /// No more windows are counted: two a second of the longest track, and one. Only a call that is refused has more.
-const MOST_WINDOWS: usize = 28_801;
+const MOST_WINDOWS: usize = 2 * LONGEST as usize + 1;
 
 pub fn duration(track: &Track) -> f64 {
     track.samples as f64 / f64::from(track.settings.rate)

@@ -5,7 +5,7 @@ use ulyptesh::calls::LONGEST_CARD;
 use ulyptesh::calls::{CardFields, CardRead, PackedFields, read_card, write_card, write_packed_card};
 
 /// Segments of a card, and how many cards are a round.
-const CARDS: [(usize, usize); 2] = [(5, 100_000), (1_023, 1_000)];
+const CARDS: [(usize, usize); 4] = [(5, 100_000), (1_023, 1_000), (1_024, 1_000), (4_095, 250)];
 
 const ROUNDS: usize = 7;
 

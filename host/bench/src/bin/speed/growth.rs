@@ -7,9 +7,9 @@ use ulyptesh::Settings;
 
 const RATE: u32 = 44_100;
 
-/// Minutes of the tracks; segments are found on a track's frames alone, so theirs are longer.
+/// Minutes of the tracks; segments are found on a track's frames alone, so theirs are longer, up to a day.
 const ANALYSED: [usize; 7] = [1, 2, 4, 8, 16, 32, 64];
-const CUT: [usize; 5] = [15, 30, 60, 120, 240];
+const CUT: [usize; 7] = [15, 30, 60, 120, 240, 720, 1_440];
 
 const ROUNDS: usize = 3;
 

@@ -49,7 +49,7 @@ const TOPICS: &[Topic] = &[
     #[cfg(oracle)]
     ("medians", medians::print_row),
     #[cfg(oracle)]
-    ("segments", segments::print_row),
+    ("segments", segments::print_rows),
     #[cfg(oracle)]
     ("lists", long_lists::print_rows),
     #[cfg(oracle)]

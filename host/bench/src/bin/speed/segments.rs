@@ -1,6 +1,6 @@
-//! The segments of the longest track from its frames, beside the oracle's: seconds for one call.
+//! The segments of long tracks from their frames, beside the oracle's: seconds for one call.
 use crate::SEED;
-use crate::rounds::{Pair, header};
+use crate::rounds::{Pair, ROUNDS, header, median_of, seconds};
 use bench::inputs::chromas::{draws, uniform};
 use bench::oracle::key_lime::expose::{estimate_segments, key_from_index};
 use bench::oracle::{self, config};
@@ -9,7 +9,11 @@ use ulyptesh::Settings;
 use ulyptesh::calls::{Buffers, EstimateRows, SegmentRows, frame_positions};
 
 const RATE: u32 = 44_100;
-const LONGEST: usize = 14_400;
+
+/// Hours of the tracks, and rounds of each beside the oracle, which looks at every frame for each window: at twelve hours
+/// it would take more than a minute.
+const BESIDE_ORACLE: [(usize, usize); 2] = [(1, 7), (4, 3)];
+const ALONE: [usize; 2] = [12, 24];
 
 /// The Rust's own settings with the most windows: one every half second.
 fn settings() -> Settings {
@@ -40,11 +44,25 @@ pub fn segments_of(track: &Track) -> (EstimateRows, SegmentRows) {
     (lent.estimates, lent.segments)
 }
 
-/// Four hours of frames, with a window every half second.
-pub fn print_row() {
-    let track = track(LONGEST);
+fn print_beside_oracle((hours, rounds): (usize, usize)) {
+    let track = track(3_600 * hours);
     let (frames, config, key) = (oracle::frames(&track), config(&track.settings), key_from_index(0));
+    let theirs = || estimate_segments(&frames, (3_600 * hours) as f64, key, 0.5, config);
+    Pair::of_rounds(rounds, || seconds(|| segments_of(&track)), || seconds(theirs)).print(&name(hours));
+}
+
+fn print_alone(hours: usize) {
+    let track = track(3_600 * hours);
+    println!("{:30} {:10.3}", name(hours), median_of(ROUNDS, || seconds(|| segments_of(&track))));
+}
+
+fn name(hours: usize) -> String {
+    format!("{hours} h, {RATE} Hz")
+}
+
+/// Up to a day of frames, with a window every half second.
+pub fn print_rows() {
     header("s for the segments of a track", "oracle");
-    Pair::of_work(|| segments_of(&track), || estimate_segments(&frames, LONGEST as f64, key, 0.5, config))
-        .print(&format!("four hours, {RATE} Hz"));
+    BESIDE_ORACLE.into_iter().for_each(print_beside_oracle);
+    ALONE.into_iter().for_each(print_alone);
 }
