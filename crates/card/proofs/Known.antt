@@ -8,7 +8,7 @@ use Rattle.card.specs.Layout.{LayoutFits, layout1, layout2, layouts, mos
 use Rattle.card.specs.declared.layout.Layout.{Layout}
 use Rattle.card.specs.declared.layout.FoundLayout.the-variants.{Found, Missing}
 
--- its widths can be put, an end fits 32 bits, its smallest card has seven bytes, and no card has more segments or a later end
+-- its widths can be put, an end has 27 bits at most, its smallest card has seven bytes, and no card has more segments or a later end
 pub record Sound (l : Layout) : Type 0 where
   pub fits : LayoutFits l
   pub narrow : l .end ≤ 27
