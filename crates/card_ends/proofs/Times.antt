@@ -20,7 +20,7 @@ use Rattle.timeline.specs.Tiling.{Time}
 use Rattle.card_ends.specs.Times.{Inside, Lasting, TimesInside}
 
 -- n ≤ 1000 * (a / p), a / p ≤ b / q and b / q = k / t give n ≤ 1000 * (k / t)
-under-step : (n a p b q k t : ℕ) → 0 < p → 0 < q → n * p ≤ a * 1000 → a * q ≤ b * p → b * t ≡ k * q → n * t ≤ k * 1000
+pub under-step : (n a p b q k t : ℕ) → 0 < p → 0 < q → n * p ≤ a * 1000 → a * q ≤ b * p → b * t ≡ k * q → n * t ≤ k * 1000
 under-step n a p b q k t some more reached under is =
     let first : n * p * (t * q) ≤ a * 1000 * (t * q) = mul-le-mul-right (t * q) reached in
     let second : a * q * (1000 * t) ≤ b * p * (1000 * t) = mul-le-mul-right (1000 * t) under in

@@ -13,7 +13,7 @@ use Rattle.laws.proofs.Front.{length-list}
 use Rattle.card.specs.Layout.{Meaning, layoutOr1}
 use Rattle.card.specs.Rules.{headerBroken, firstBroken, cardBroken, layoutFor}
 use Rattle.card_form.specs.Form.{cardBytes, cardFor}
-use Rattle.card_form.specs.Rows.{unequal}
+use Rattle.card_form.specs.Rows.{unequal, layoutOfLists}
 use Rattle.card.specs.declared.layout.Layout.{Layout}
 use Rattle.card.specs.declared.layout.FoundLayout.{FoundLayout}
 use Rattle.card.specs.declared.layout.FoundLayout.the-variants.{Found, Missing}
@@ -59,7 +59,7 @@ meant a = record { header = a .header; segments = list (a .at) (a .count) }
 
 -- the layout that it is written in
 abbrev pub layoutAsked : Asked → FoundLayout
-layoutAsked a = cond (unequal (a .starts) (a .count) (a .keys) (a .confidences) || ltb (a .gap) (a .count)) Missing (layoutFor (meant a))
+layoutAsked a = layoutOfLists (a .starts) (a .count) (a .keys) (a .confidences) (a .gap) (meant a)
 
 -- lists of equal length, and a layout whose card it is
 pub record Held (a : Asked) (l : Layout) : Type 0 where

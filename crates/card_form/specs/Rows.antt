@@ -1,13 +1,16 @@
 -- A card's segments in lent rows: four slices of packed numbers side by side. Definitions only.
 use Prim.Native.Nat.{ℕ}
-use mathlib.Core.Bool.{Bool, not}
+use mathlib.Core.Bool.{Bool, not, _||_, cond}
 use mathlib.Core.List.{List, [], _∷_, map}
-use lib.Dec.{eqb}
+use lib.Dec.{eqb, ltb}
 use lib.ListN.{length, getD}
 use denote.Ref.{RefT, now}
 use Rattle.laws.specs.Front.{front, list, shortest}
 use Rattle.laws.specs.Table.{anyOf}
-use Rattle.card.specs.Rules.{startAt}
+use Rattle.card.specs.Layout.{Meaning}
+use Rattle.card.specs.Rules.{startAt, layoutFor}
+use Rattle.card.specs.declared.layout.FoundLayout.{FoundLayout}
+use Rattle.card.specs.declared.layout.FoundLayout.the-variants.{Missing}
 use Rattle.card.specs.declared.layout.Segment.{Segment}
 
 -- where each segment starts and ends in ms, its key's number, its confidence in thousandths
@@ -57,3 +60,7 @@ cardSegmentsIn ends keys confidences = list (rowAt ends keys confidences) (lengt
 -- lists of these lengths are not equally long
 unfoldable pub unequal : ℕ → ℕ → ℕ → ℕ → Bool
 unequal starts ends keys confidences = anyOf (not (eqb starts ends) ∷ not (eqb keys ends) ∷ not (eqb confidences ends) ∷ [])
+
+-- the layout of a meaning that is told by lists of these lengths: none where they are not equally long, or where one of the segments, the first at `gap`, does not start where it has to
+abbrev pub layoutOfLists : ℕ → ℕ → ℕ → ℕ → ℕ → Meaning → FoundLayout
+layoutOfLists starts ends keys confidences gap m = cond (unequal starts ends keys confidences || ltb gap ends) Missing (layoutFor m)

@@ -1,8 +1,7 @@
 -- The analysis that a card is written from, in seconds and parts of one, its meaning in packed numbers, and the layout of its card. Definitions only.
 use Prim.Native.Nat.{ℕ, _+_}
-use mathlib.Core.Bool.{Bool, not, _||_, cond}
+use mathlib.Core.Bool.{Bool, not}
 use mathlib.Core.List.{List}
-use lib.Dec.{ltb}
 use lib.ListN.{length, getD}
 use lib.Ieee.{Float, nan, eq}
 use Rattle.laws.specs.First.{first}
@@ -10,11 +9,10 @@ use Rattle.laws.specs.Front.{list}
 use Rattle.laws.specs.Values.{plusZero}
 use Rattle.packed.specs.Packing.{numberOr, thousandthsOf, millisecondsOf}
 use Rattle.card.specs.Layout.{Meaning, lastEnd, isFound}
-use Rattle.card.specs.Rules.{before, layoutFor}
-use Rattle.card_form.specs.Rows.{unequal}
+use Rattle.card.specs.Rules.{before}
+use Rattle.card_form.specs.Rows.{layoutOfLists}
 use Rattle.card_judge.specs.declared.analysed.Overall.{Overall}
 use Rattle.card.specs.declared.layout.FoundLayout.{FoundLayout}
-use Rattle.card.specs.declared.layout.FoundLayout.the-variants.{Missing}
 use Rattle.card.specs.declared.layout.Header.{Header}
 use Rattle.card.specs.declared.layout.Segment.{Segment}
 
@@ -73,15 +71,9 @@ gapAt starts ends i = not (eq (getD starts i nan) (before plusZero (λ (k : ℕ)
 abbrev pub firstGap : List Float → List Float → ℕ
 firstGap starts ends = first (gapAt starts ends) (length ends) 0
 
--- its lists are not equally long, or a segment does not start where it has to
-abbrev pub apart : Analysis → Bool
-apart a =
-    unequal (length (a .starts)) (length (a .ends)) (length (a .keys)) (length (a .confidences))
-    || ltb (firstGap (a .starts) (a .ends)) (length (a .ends))
-
 -- the layout that it is written in
 unfoldable pub layoutOf : Analysis → FoundLayout
-layoutOf a = cond (apart a) Missing (layoutFor (meaningOf a))
+layoutOf a = layoutOfLists (length (a .starts)) (length (a .ends)) (length (a .keys)) (length (a .confidences)) (firstGap (a .starts) (a .ends)) (meaningOf a)
 
 -- number 11: an analysis that no card holds
 abbrev pub unwritable : Analysis → Bool

@@ -28,11 +28,11 @@ module _ (a : Asked) (lent : List ℕ) where
   abbrev left-by : BytesOutcome
   left-by = writtenAs refuses (cardFor (meant a)) lent
 
-  told : {found other : FoundLayout} → found ≡ layoutAsked a → found ≡ other → refuses ≡ not (isFound other)
-  told e f = ap (λ (x : FoundLayout). not (isFound x)) (sym e ∙ f)
+  of-layout : {found other : FoundLayout} → found ≡ layoutAsked a → found ≡ other → refuses ≡ not (isFound other)
+  of-layout e f = ap (λ (x : FoundLayout). not (isFound x)) (sym e ∙ f)
 
   pub none-holds : {found : FoundLayout} {r : Written} → found ≡ layoutAsked a → found ≡ Missing → r ≡ answered 11 0 → bytesOutcome r lent ≡ left-by
-  none-holds e f r = cannot-write refuses (cardFor (meant a)) lent (told e f) r
+  none-holds e f r = cannot-write refuses (cardFor (meant a)) lent (of-layout e f) r
 
   module _ {found : FoundLayout} {l : Layout} (e : found ≡ layoutAsked a) (f : found ≡ Found l) where
     known : Held a l
@@ -52,11 +52,11 @@ module _ (a : Asked) (lent : List ℕ) where
 
     module _ {size : ℕ} (s : size ≡ cardSize l (a .count)) where
       pub too-few : {r : Written} → length lent < size → r ≡ answered 12 0 → bytesOutcome r lent ≡ left-by
-      too-few less r = too-short refuses (cardFor (meant a)) lent (told e f) (measured s) less r
+      too-few less r = too-short refuses (cardFor (meant a)) lent (of-layout e f) (measured s) less r
 
       pub can-write : size ≤ length lent → CanWrite lent l (a .header) (a .at) (a .count) × (a .keys ≡ a .count) × (a .confidences ≡ a .count)
       can-write room = (record { layout = fits; good = need .good; room = subst (λ (n : ℕ). n ≤ length lent) s room }, known .keyed, known .trusted)
 
       pub card-written : {n : ℕ} {after : List ℕ} → size ≤ length lent → n ≡ cardSize l (a .count) → after ≡ front (cardBytes l (meant a)) lent → bytesOutcome (answered 0 n) after ≡ left-by
       card-written room n put =
-          wrote refuses (cardFor (meant a)) lent (told e f) (measured s) room (measured n) (put ∙ ap (λ (bytes : List ℕ). front bytes lent) (card-in (meant a) (known .kept)))
+          wrote refuses (cardFor (meant a)) lent (of-layout e f) (measured s) room (measured n) (put ∙ ap (λ (bytes : List ℕ). front bytes lent) (card-in (meant a) (known .kept)))

@@ -39,8 +39,8 @@ abbrev tooLong : ℕ
 tooLong = 21_512
 
 -- the segments take fewer
-few-bits : (l : Layout) → Sound l → (count : ℕ) → count < 2 ^ l .count → count * segmentWidth l ≤ 4_096 * 42
-few-bits l sound count few = mul-le-mul {n₂ = 4_096} {m₂ = 42} (omega (arith, few, sound .few)) (omega (arith, sound .narrow))
+segments-short : (l : Layout) → Sound l → (count : ℕ) → count < 2 ^ l .count → count * segmentWidth l ≤ 4_096 * 42
+segments-short l sound count few = mul-le-mul {n₂ = 4_096} {m₂ = 42} (omega (arith, few, sound .few)) (omega (arith, sound .narrow))
 
 module _ (bytes : List ℕ) (long : tooLong ≤ length bytes) where
   abbrev bits : List ℕ
@@ -50,7 +50,7 @@ module _ (bytes : List ℕ) (long : tooLong ≤ length bytes) where
   other-length : (l : Layout) → Sound l → eqb (length bytes) (cardSize l (countOn l bits)) ≡ false
   other-length l sound =
       let few = count-below l bits (binary-bytes bytes) (rw (length-bytes bytes) (omega (arith, sound .fits .count))) in
-      let segments = few-bits l sound (countOn l bits) few in
+      let segments = segments-short l sound (countOn l bits) few in
       ne-eqb (length bytes) (cardSize l (countOn l bits)) (λ same. omega (arith, same, segments, sound .fits .count))
 
   judged-long : (rows : ℕ) (known : Bool) → isFound (layoutOn bits) ≡ known → judgedOf bytes rows ≡ cond known (Refused 20) (Refused 21)

@@ -1,7 +1,7 @@
 // A card's listing, written from the front of lent bytes.
 ghost use mathlib.Core.Path.{_≡_};
 ghost use Prim.Native.Nat.{_*_, _≤_};
-ghost use lib.ListN.{length};
+ghost use lib.ListN.{length, replicate};
 ghost use Rattle.laws.specs.Front.{list};
 ghost use Rattle.bits.specs.Bits.{bitsOfBytes};
 ghost use Rattle.card_form.specs.Form.{countOn, segmentOn, meaningOn};
@@ -22,7 +22,7 @@ use card_reader::on_card::segment_on;
 
 // Zeros, as many as the longest listing has bytes.
 pub fn listing_room() -> [u8; 208_854]
-    ensures { λ r. ⌜ longestListing ≡ length r ⌝ }
+    ensures { λ r. ⌜ r ≡ replicate longestListing 0 ⌝ }
 {
     [0; 208_854]
 }

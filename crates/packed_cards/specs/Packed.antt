@@ -1,16 +1,15 @@
 -- What a card is written from in packed numbers, and the layout of its card. Definitions only.
 use Prim.Native.Nat.{ℕ}
-use mathlib.Core.Bool.{Bool, not, _||_, cond}
+use mathlib.Core.Bool.{Bool, not}
 use mathlib.Core.List.{List}
-use lib.Dec.{eqb, ltb}
+use lib.Dec.{eqb}
 use lib.ListN.{length, getD}
 use Rattle.laws.specs.First.{first}
 use Rattle.card.specs.Layout.{Meaning, isFound}
-use Rattle.card.specs.Rules.{before, layoutFor}
+use Rattle.card.specs.Rules.{before}
 use Rattle.card.specs.declared.layout.FoundLayout.{FoundLayout}
-use Rattle.card.specs.declared.layout.FoundLayout.the-variants.{Missing}
 use Rattle.card.specs.declared.layout.Header.{Header}
-use Rattle.card_form.specs.Rows.{CardRows, cardSegmentsIn, unequal}
+use Rattle.card_form.specs.Rows.{CardRows, cardSegmentsIn, layoutOfLists}
 
 -- a header, and as many segments as there are ends
 abbrev pub packedMeaning : Header → List ℕ → List ℕ → List ℕ → Meaning
@@ -24,15 +23,11 @@ packedGapAt starts ends i = not (eqb (getD starts i 0) (before 0 (λ (k : ℕ). 
 abbrev pub firstPackedGap : List ℕ → List ℕ → ℕ
 firstPackedGap starts ends = first (packedGapAt starts ends) (length ends) 0
 
--- the lists are not equally long, or a segment does not start where it has to
-abbrev pub packedApart : CardRows → Bool
-packedApart rows =
-    unequal (length (rows .starts)) (length (rows .ends)) (length (rows .keys)) (length (rows .confidences))
-    || ltb (firstPackedGap (rows .starts) (rows .ends)) (length (rows .ends))
-
 -- the layout that a header and rows are written in
 unfoldable pub packedLayout : Header → CardRows → FoundLayout
-packedLayout h rows = cond (packedApart rows) Missing (layoutFor (packedMeaning h (rows .ends) (rows .keys) (rows .confidences)))
+packedLayout h rows =
+    layoutOfLists (length (rows .starts)) (length (rows .ends)) (length (rows .keys)) (length (rows .confidences)) (firstPackedGap (rows .starts) (rows .ends))
+    (packedMeaning h (rows .ends) (rows .keys) (rows .confidences))
 
 -- number 11: packed numbers that no card holds
 abbrev pub packedUnwritable : Header → CardRows → Bool
