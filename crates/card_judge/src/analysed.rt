@@ -1,7 +1,7 @@
 // An analysis in seconds and parts of one: its packed numbers, and the layout of its card.
 ghost use mathlib.Core.Path.{_≡_};
 ghost use lib.ListN.{length};
-ghost use Rattle.card.specs.Rules.{firstBroken, cardBroken, layoutFor};
+ghost use Rattle.card.specs.Rules.{firstBroken, cardBroken};
 ghost use Rattle.card_judge.specs.Analysed.{packedPart, packedHeader, packedSegment, packedSegments, meaning, analysis, firstGap, layoutOf};
 use card::layout::FoundLayout;
 use card::layout::Header;
@@ -111,23 +111,7 @@ fn is_broken(l: Layout, o: Overall, ends: &[f64], keys: &[u8], confidences: &[f3
     first_broken(l, ends, keys, confidences) < count
 }
 
-// The first layout of which an analysis breaks no rule.
-fn layout_for(o: Overall, ends: &[f64], keys: &[u8], confidences: &[f32]) -> FoundLayout
-    requires { ⌜ (length (now keys) ≡ length (now ends)) × (length (now confidences) ≡ length (now ends)) ⌝ }
-    ensures { λ r. ⌜ r ≡ layoutFor (meaning o (now (ends .entry)) (now (keys .entry)) (now (confidences .entry))) ⌝ }
-{
-    let first = layout_1();
-    let second = layout_2();
-    if !is_broken(first, o, ends, keys, confidences) {
-        return FoundLayout::Found(first);
-    }
-    if !is_broken(second, o, ends, keys, confidences) {
-        return FoundLayout::Found(second);
-    }
-    FoundLayout::Missing
-}
-
-// The layout that an analysis is written in.
+// The layout that an analysis is written in: the first of which it breaks no rule.
 pub fn layout_of(
     o: Overall,
     starts: &[f64],
@@ -138,11 +122,19 @@ pub fn layout_of(
     ensures { λ r. ⌜ r ≡ layoutOf (analysis o (now (starts .entry)) (now (ends .entry)) (now (keys .entry)) (now (confidences .entry))) ⌝ }
 {
     let count = ends.len();
+    let first = layout_1();
+    let second = layout_2();
     if unequal_lengths(starts.len(), count, keys.len(), confidences.len()) {
         return FoundLayout::Missing;
     }
     if first_gap(starts, ends) < count {
         return FoundLayout::Missing;
     }
-    layout_for(o, ends, keys, confidences)
+    if !is_broken(first, o, ends, keys, confidences) {
+        return FoundLayout::Found(first);
+    }
+    if !is_broken(second, o, ends, keys, confidences) {
+        return FoundLayout::Found(second);
+    }
+    FoundLayout::Missing
 }

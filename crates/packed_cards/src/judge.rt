@@ -1,7 +1,7 @@
 // Packed numbers judged by the card rules.
 ghost use mathlib.Core.Path.{_≡_};
 ghost use lib.ListN.{length};
-ghost use Rattle.card.specs.Rules.{firstBroken, cardBroken, layoutFor};
+ghost use Rattle.card.specs.Rules.{firstBroken, cardBroken};
 ghost use Rattle.card_form.specs.Rows.{lentCardRows, cardSegmentsIn};
 ghost use Rattle.packed_cards.specs.Packed.{packedMeaning, firstPackedGap, packedLayout};
 use crate::rows::row_at;
@@ -67,23 +67,7 @@ fn is_broken(l: Layout, h: Header, ends: &[u32], keys: &[u8], confidences: &[u16
     first_broken(l, ends, keys, confidences) < count
 }
 
-// The first layout of which they break no rule.
-fn layout_for(h: Header, ends: &[u32], keys: &[u8], confidences: &[u16]) -> FoundLayout
-    requires { ⌜ (length (now keys) ≡ length (now ends)) × (length (now confidences) ≡ length (now ends)) ⌝ }
-    ensures { λ r. ⌜ r ≡ layoutFor (packedMeaning h (now (ends .entry)) (now (keys .entry)) (now (confidences .entry))) ⌝ }
-{
-    let first = layout_1();
-    let second = layout_2();
-    if !is_broken(first, h, ends, keys, confidences) {
-        return FoundLayout::Found(first);
-    }
-    if !is_broken(second, h, ends, keys, confidences) {
-        return FoundLayout::Found(second);
-    }
-    FoundLayout::Missing
-}
-
-// The layout that the header and the rows are written in.
+// The layout that the header and the rows are written in: the first of which they break no rule.
 pub fn layout_of(
     h: Header,
     starts: &[u32],
@@ -94,11 +78,19 @@ pub fn layout_of(
     ensures { λ r. ⌜ r ≡ packedLayout h (lentCardRows (starts .entry) (ends .entry) (keys .entry) (confidences .entry)) ⌝ }
 {
     let count = ends.len();
+    let first = layout_1();
+    let second = layout_2();
     if unequal_lengths(starts.len(), count, keys.len(), confidences.len()) {
         return FoundLayout::Missing;
     }
     if first_gap(starts, ends) < count {
         return FoundLayout::Missing;
     }
-    layout_for(h, ends, keys, confidences)
+    if !is_broken(first, h, ends, keys, confidences) {
+        return FoundLayout::Found(first);
+    }
+    if !is_broken(second, h, ends, keys, confidences) {
+        return FoundLayout::Found(second);
+    }
+    FoundLayout::Missing
 }
