@@ -17,6 +17,7 @@ use Rattle.card.specs.declared.layout.Header.{Header}
 use Rattle.card_form.specs.Rows.{CardRows}
 use Rattle.packed_call.specs.PackedCards.{packedCall}
 use Rattle.read_call.specs.Reads.{ReadOutcome, readCall}
+use Rattle.set_calls.specs.Sets.{CardSet, SetOutcome, addCall, removeCall}
 use Rattle.interface.specs.Interface.{interfaceNumber}
 use Rattle.ulyptesh.specs.Analysis.{Promised}
 
@@ -47,6 +48,14 @@ PackedCardUnique = (header : Header) (rows : CardRows) (bytes : List ℕ) → On
 -- of `ulyptesh_read_card`, for every input
 abbrev pub ReadUnique : Type 0
 ReadUnique = (bytes : List ℕ) (rows : CardRows) → OneOutcome (λ (o : ReadOutcome). o ≡ readCall bytes rows)
+
+-- of `ulyptesh_add_card`, for every input
+abbrev pub AddUnique : Type 0
+AddUnique = (card : List ℕ) (s : CardSet) → OneOutcome (λ (o : SetOutcome). o ≡ addCall card s)
+
+-- of `ulyptesh_remove_card`, for every input
+abbrev pub RemoveUnique : Type 0
+RemoveUnique = (card : List ℕ) (s : CardSet) → OneOutcome (λ (o : SetOutcome). o ≡ removeCall card s)
 
 -- of `ulyptesh_frames`, for every input
 abbrev pub FramesUnique : Type 0

@@ -76,7 +76,7 @@ pub extern "C" fn ulyptesh_write_packed_card(
 
 // Reads a key card: segments in milliseconds, keys by number and thousandths from the front of the rows; the answer
 // tells the rest. Refusals: 20 too short or of another length than its count gives, 21 a layout that is not known,
-// 22 a card rule broken or a filler bit set, 24 fewer rows than segments.
+// 22 a card rule broken or a filler bit set, 23 layout 2 for what layout 1 holds, 24 fewer rows than segments.
 #[no_mangle]
 pub extern "C" fn ulyptesh_read_card(
     bytes: &[u8],

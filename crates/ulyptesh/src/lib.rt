@@ -6,3 +6,4 @@ pub mod cards;
 pub mod frames_only;
 pub mod from_chroma;
 pub mod names;
+pub mod sets;

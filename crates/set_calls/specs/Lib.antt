@@ -1,0 +1,2 @@
+pub mod Sets
+pub mod inside

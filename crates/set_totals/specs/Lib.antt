@@ -1,0 +1,2 @@
+pub mod Summary
+pub mod inside
