@@ -3,6 +3,8 @@ pub mod Turns
 pub mod First
 pub mod Front
 pub mod Every
+pub mod Same
+pub mod Sums
 pub mod Lists
 pub mod Column
 pub mod Table

@@ -1,7 +1,8 @@
--- A test of every number below a bound, which the checker computes, of any such number, of every entry of a list, and of every entry with the next. Definitions only.
+-- A test of every number below a bound, which the checker computes, of any such number, of every entry of a list, of every entry with the next, and of two lists. Definitions only.
 use Prim.Native.Nat.{ℕ, zero, suc, _+_, _-_}
 use mathlib.Core.Bool.{Bool, true, false, _&&_, _||_}
 use mathlib.Core.List.{List}
+use lib.Dec.{eqb}
 use lib.ListN.{length, getD}
 
 -- the test passes for each of the numbers 0 to n - 1
@@ -21,3 +22,7 @@ everyEntry test d xs = every (λ (k : ℕ). test (getD xs k d)) (length xs)
 -- each of the first n entries stands so to the next of them; d is read nowhere
 unfoldable pub everyPair : {A : Type 0} → (A → A → Bool) → A → List A → ℕ → Bool
 everyPair test d xs n = every (λ (k : ℕ). test (getD xs k d) (getD xs (k + 1) d)) (n - 1)
+
+-- two lists of numbers are as long as each other, and have the same in each place
+unfoldable pub sameNumbers : List ℕ → List ℕ → Bool
+sameNumbers xs ys = eqb (length xs) (length ys) && every (λ (k : ℕ). eqb (getD xs k 0) (getD ys k 0)) (length xs)

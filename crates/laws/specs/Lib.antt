@@ -2,6 +2,7 @@ pub mod Turns
 pub mod First
 pub mod Front
 pub mod Every
+pub mod Sums
 pub mod Lists
 pub mod Table
 pub mod Values

@@ -1,16 +1,15 @@
 -- The table row by row: a card that is accepted, and the three ways out of a call.
 use mathlib.Core.Path.{_≡_, refl, sym, ap, ap₂, subst, _∙_}
-use mathlib.Core.Bool.{Bool, true, false, not, cond}
+use mathlib.Core.Bool.{Bool, true, false, not}
 use mathlib.Core.List.{List}
 use mathlib.Core.Logic.{inl, inr}
 use Prim.Native.Nat.{ℕ, _<_, _≤_}
 use native.Mathlib.Nat.{zero-add}
 use native.Mathlib.Omega.{arith}
-use lib.Dec.{T, eqb, ltb}
+use lib.Dec.{T, ltb}
 use lib.ListN.{length, drop}
 use borrow.Author.Tests.{eq-eqb, ne-eqb, ltb-true, ltb-false, lt-ltb, le-ltb}
 use Rattle.laws.proofs.Cases.{lt-or-ge}
-use Rattle.laws.specs.First.{first}
 use Rattle.laws.proofs.First.{first-or-end, first-within}
 use Rattle.laws.proofs.Table.{Reads, here, next, end, reads}
 use Rattle.bits.specs.Bits.{bitsOfBytes}
@@ -19,9 +18,9 @@ use Rattle.card.specs.declared.layout.Layout.{Layout}
 use Rattle.card_reader.specs.Reading.{judgedOf, readAs}
 use Rattle.card_reader.specs.declared.judge.CardJudged.{CardJudged}
 use Rattle.card_reader.specs.declared.judge.CardJudged.the-variants.{Refused, Readable}
-use Rattle.set_places.specs.Entries.{sameNumbers}
+use Rattle.laws.specs.Every.{sameNumbers}
 use Rattle.set_places.specs.Places.{places, placeSize, placeAt, readWhole, isRead, lowestWith, placed}
-use Rattle.set_places.proofs.Entries.{same-is}
+use Rattle.laws.proofs.Same.{same-is}
 use Rattle.set_totals.specs.Summary.{summaryOf, numbersOf}
 use Rattle.set_calls.specs.Sets.{CardSet, SetOutcome, untrue, refusalOf, answer, setOutcome, unchanged, changed, setTable, setCall}
 use Rattle.set_calls.specs.inside.Accepted.{acceptTable, acceptedAs}
@@ -73,9 +72,11 @@ module _ (card : List ℕ) (s : CardSet) where
       by-length : untrue s ≡ false → {k : Layout} → judgedOf card mostSegments ≡ Readable k → (long : Bool) → ltb placeSize (length card) ≡ long → Accepted l
       by-length u j true q = apart (long-refused u j (ltb-true placeSize (length card) q) ∙ e)
       by-length u j false q = record { set = true-set s u; readable = j ∙ accepted-is u j (ltb-false placeSize (length card) q) ∙ e; fits = ltb-false placeSize (length card) q }
+
       by-reading : untrue s ≡ false → (j : CardJudged) → judgedOf card mostSegments ≡ j → Accepted l
       by-reading u (Refused number) q = apart (unread-refused u q ∙ e)
       by-reading u (Readable k) q = by-length u q (ltb placeSize (length card)) refl
+
       by-truth : (b : Bool) → untrue s ≡ b → Accepted l
       by-truth true u = apart (untrue-refused u ∙ e)
       by-truth false u = by-reading u (judgedOf card mostSegments) refl
@@ -95,12 +96,15 @@ module _ (card : List ℕ) (s : CardSet) where
       where
         same : {n : ℕ} → _≡_ {A = CardJudged} (Refused n) (Refused number) → unchanged number s ≡ unchanged n s
         same {n} q = let z : n ≡ number = cc in ap (λ (k : ℕ). unchanged k s) (sym z)
+
         by-length : untrue s ≡ false → {k : Layout} → judgedOf card mostSegments ≡ Readable k → (long : Bool) → ltb placeSize (length card) ≡ long → unchanged number s ≡ setCall missing from to card s
         by-length u j true q = same (long-refused u j (ltb-true placeSize (length card) q) ∙ e) ∙ called (next u (next (readable-read card j) (here q)))
         by-length u j false q = apart (sym (accepted-is u j (ltb-false placeSize (length card) q) ∙ e))
+
         by-reading : untrue s ≡ false → (j : CardJudged) → judgedOf card mostSegments ≡ j → unchanged number s ≡ setCall missing from to card s
         by-reading u (Refused n) q = same (unread-refused u q ∙ e) ∙ ap (λ (k : ℕ). unchanged k s) (sym (refused-by card q)) ∙ called (next u (here (refused-unread card q)))
         by-reading u (Readable k) q = by-length u q (ltb placeSize (length card)) refl
+
         by-truth : (b : Bool) → untrue s ≡ b → unchanged number s ≡ setCall missing from to card s
         by-truth true u = same (untrue-refused u ∙ e) ∙ called (here u)
         by-truth false u = by-reading u (judgedOf card mostSegments) refl

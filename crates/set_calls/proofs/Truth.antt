@@ -3,14 +3,13 @@ use mathlib.Core.Path.{_≡_, refl, sym, ap, subst, _∙_}
 use mathlib.Core.Bool.{Bool, true, false, not, _||_}
 use mathlib.Core.List.{List, [], _∷_}
 use Prim.Native.Nat.{ℕ}
-use native.Mathlib.Omega.{arith}
 use lib.Dec.{T, eqb}
 use lib.ListN.{length}
 use borrow.Author.Tests.{eq-eqb, eqb-true, not-false}
 use Rattle.laws.proofs.Table.{none-of}
-use Rattle.set_places.specs.Entries.{sameNumbers}
+use Rattle.laws.specs.Every.{sameNumbers}
 use Rattle.set_places.specs.Places.{setSize, anySpoilt}
-use Rattle.set_places.proofs.Entries.{same-is, same-own}
+use Rattle.laws.proofs.Same.{same-is, same-own}
 use Rattle.set_totals.specs.Summary.{summaryOf, numbersOf}
 use Rattle.set_calls.specs.Sets.{CardSet, untrue}
 
@@ -54,5 +53,6 @@ module _ (s : CardSet) where
     where
       passed : (b : Bool) → T b → b ≡ true
       passed true t = refl
+
       all : (a b c : Bool) → a ≡ false → b ≡ false → c ≡ false → (a || b) || c ≡ false
       all a b c d e f = rw (d, e, f)

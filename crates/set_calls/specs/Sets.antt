@@ -7,7 +7,7 @@ use lib.ListN.{length}
 use denote.Ref.{RefT, now}
 use Rattle.laws.specs.Table.{Check, _gives_, firstOf, anyOf}
 use Rattle.card_reader.specs.Reading.{Reading, refused, says}
-use Rattle.set_places.specs.Entries.{sameNumbers}
+use Rattle.laws.specs.Every.{sameNumbers}
 use Rattle.set_places.specs.Places.{places, placeSize, setSize, readWhole, isRead, anySpoilt, inPlace, lowestWith, placed}
 use Rattle.set_totals.specs.Summary.{summaryOf, numbersOf}
 use Rattle.set_calls.specs.declared.SetChange.{SetChange}

@@ -1,13 +1,13 @@
 // The calls "add a card to a set" and "take a card out", whole.
 ghost use mathlib.Core.Path.{_≡_};
-ghost use Rattle.set_places.specs.Entries.{sameNumbers};
+ghost use Rattle.laws.specs.Every.{sameNumbers};
 ghost use Rattle.set_calls.specs.Sets.{lentSet, untrue, answer, setOutcome, addCall, removeCall};
 ghost use Rattle.set_calls.specs.inside.Accepted.{acceptedAs};
 use card::layout::MOST_SEGMENTS;
 use card_reader::judge::CardJudged;
 use card_reader::judge::judge_card;
-use set_places::places::PLACES;
 use set_places::places::PLACE_SIZE;
+use set_places::places::PLACES;
 use set_places::places::SET_SIZE;
 use set_places::places::find_place;
 use set_places::places::put_in_place;
@@ -90,7 +90,10 @@ pub fn add_card(set: &mut [u8], summary: &mut [u64], card: &[u8]) -> SetChange
             }
             put_in_place(set, place, card);
             add_numbers(card, l, summary);
-            SetChange { refusal: 0, place: place as u32 }
+            SetChange {
+                refusal: 0,
+                place: place as u32,
+            }
         }
     }
 }
@@ -109,7 +112,10 @@ pub fn remove_card(set: &mut [u8], summary: &mut [u64], card: &[u8]) -> SetChang
             }
             put_in_place(set, place, &card[..0]);
             take_numbers(card, l, summary);
-            SetChange { refusal: 0, place: place as u32 }
+            SetChange {
+                refusal: 0,
+                place: place as u32,
+            }
         }
     }
 }

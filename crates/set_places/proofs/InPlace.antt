@@ -2,12 +2,12 @@
 use mathlib.Core.Path.{_≡_, refl, sym, ap, ap₂, subst, _∙_}
 use mathlib.Core.Bool.{Bool, true, false, not, _&&_}
 use mathlib.Core.List.{List, [], _∷_, _++_}
-use Prim.Native.Nat.{ℕ, _+_, _-_, _*_, _≤_}
+use Prim.Native.Nat.{ℕ, _-_, _*_, _<_, _≤_}
 use native.Mathlib.Omega.{arith}
 use lib.Dec.{T}
 use lib.ListN.{length, getD, take, drop, replicate, length-drop}
 use lib.Seq.{take-append-le, drop-append-le}
-use Rattle.bits.specs.Bits.{bitsOfBytes, numberOf, fieldAt, fieldsOf}
+use Rattle.bits.specs.Bits.{bitsOfBytes, numberOf, fieldsOf}
 use Rattle.bits.proofs.Digits.{bytes-append, length-bytes}
 use Rattle.bits.proofs.Fields.{total}
 use Rattle.card.specs.Layout.{mostSegments, layouts, numberedIn, layoutOr1}
@@ -17,8 +17,8 @@ use Rattle.card_reader.specs.Reading.{layoutOn, judgedOf, readAs}
 use Rattle.card_reader.specs.declared.judge.CardJudged.{CardJudged}
 use Rattle.card_reader.specs.declared.judge.CardJudged.the-variants.{Readable}
 use Rattle.card_reader.proofs.Ready.{Ready, ready}
-use Rattle.set_places.specs.Places.{placeSize, allZero, lengthOn, cardIn, readWhole, isRead, spoilt, inPlace}
-use Rattle.set_places.proofs.Zeros.{in-place, card-of, behind-of, none-in-place, are-zeros}
+use Rattle.set_places.specs.Places.{places, placeSize, setSize, placeAt, allZero, lengthOn, cardIn, readWhole, isRead, spoilt, inPlace}
+use Rattle.set_places.proofs.Zeros.{in-place, card-of, behind-of, none-in-place, are-zeros, drop-zeros, take-zeros}
 
 -- ---- fields at the front, whatever stands behind them
 fields-front : (widths bits rest : List ℕ) → total widths ≤ length bits → fieldsOf widths (bits ++ rest) ≡ fieldsOf widths bits
@@ -93,3 +93,11 @@ free-sound = ap (λ (b : Bool). not b && not (isRead (readWhole (cardIn (inPlace
   where
     passed : (b : Bool) → T b → b ≡ true
     passed true t = refl
+
+-- every place of zeros is free
+pub zeros-free : (i : ℕ) → i < places → placeAt (replicate setSize 0) i ≡ inPlace []
+unfolding placeAt
+zeros-free i h =
+    ap (take placeSize) (drop-zeros (i * placeSize) setSize (omega (arith, h)))
+    ∙ take-zeros placeSize (setSize - i * placeSize) (omega (arith, h))
+    ∙ sym none-in-place

@@ -1,5 +1,4 @@
--- What is known of sets: lists compared and summed, what a place holds, and a place changed.
-pub mod Entries
+-- What is known of sets: what a place holds, and a place changed.
 pub mod Zeros
 pub mod Changed
 pub mod InPlace

@@ -1,23 +1,21 @@
 -- What a place holds, byte by byte: a card's bytes, and zeros behind them.
 use mathlib.Core.Path.{_≡_, refl, sym, ap, ap₂, subst, _∙_}
-use mathlib.Core.Bool.{Bool, true, _&&_}
+use mathlib.Core.Bool.{_&&_}
 use mathlib.Core.List.{List, [], _∷_, _++_}
-use mathlib.Core.Logic.{inl, inr}
-use Prim.Native.Nat.{ℕ, zero, suc, _+_, _-_, _<_, _≤_}
+use Prim.Native.Nat.{ℕ, zero, suc, _+_, _-_, _≤_}
 use native.Mathlib.Nat.{not-suc-le-zero, le-of-suc-le-suc}
 use native.Mathlib.Omega.{arith}
 use lib.Dec.{T, eqb, eqb→eq, eqb-refl}
 use lib.Ieee.Fits.{and-l, and-r, and-i}
 use lib.ListN.{length, getD, take, drop, replicate, length-append, length-drop, length-replicate, getD-replicate, replicate-append-replicate, take-append-drop}
-use lib.Seq.{ext-getD, length-take-le, take-at, drop-at}
-use Rattle.laws.specs.Every.{every, everyEntry}
-use Rattle.laws.specs.Front.{front, list}
+use lib.Seq.{ext-getD, take-at, drop-at}
+use Rattle.laws.specs.Every.{everyEntry, sameNumbers}
+use Rattle.laws.specs.Front.{list}
 use Rattle.laws.proofs.Cases.{same-test}
 use Rattle.laws.proofs.Every.{each, every-of}
-use Rattle.laws.proofs.Front.{length-front, front-own, length-list, list-own, getD-list}
-use Rattle.set_places.specs.Entries.{sameNumbers}
+use Rattle.laws.proofs.Front.{length-list, getD-list}
 use Rattle.set_places.specs.Places.{placeSize, allZero, inPlace}
-use Rattle.set_places.proofs.Entries.{same-is, same-of}
+use Rattle.laws.proofs.Same.{same-is, same-of}
 
 -- bytes that are all zeros, and back
 pub zeros-are : (bytes : List ℕ) → T (allZero bytes) → bytes ≡ replicate (length bytes) 0
@@ -38,13 +36,20 @@ getD-beyond [] k h = refl
 getD-beyond (x ∷ xs) zero h = absurd (not-suc-le-zero h)
 getD-beyond (x ∷ xs) (suc k) h = getD-beyond xs k (le-of-suc-le-suc h)
 
--- zeros but for the first n
-drop-zeros : (n m : ℕ) → n ≤ m → drop {A = ℕ} n (replicate m 0) ≡ replicate (m - n) 0
+-- zeros but for the first n, and those
+pub drop-zeros : (n m : ℕ) → n ≤ m → drop {A = ℕ} n (replicate m 0) ≡ replicate (m - n) 0
 drop-zeros n m h =
     let all : n + (m - n) ≡ m = omega (arith, h) in
     ap (λ (k : ℕ). drop {A = ℕ} n (replicate k 0)) (sym all)
     ∙ ap (drop {A = ℕ} n) (sym (replicate-append-replicate {A = ℕ} n (m - n) 0))
     ∙ drop-at {A = ℕ} (replicate n 0) (replicate (m - n) 0) n (length-replicate {A = ℕ} n 0)
+
+pub take-zeros : (n m : ℕ) → n ≤ m → take {A = ℕ} n (replicate m 0) ≡ replicate n 0
+take-zeros n m h =
+    let all : n + (m - n) ≡ m = omega (arith, h) in
+    ap (λ (k : ℕ). take {A = ℕ} n (replicate k 0)) (sym all)
+    ∙ ap (take {A = ℕ} n) (sym (replicate-append-replicate {A = ℕ} n (m - n) 0))
+    ∙ take-at {A = ℕ} (replicate n 0) (replicate (m - n) 0) n (length-replicate {A = ℕ} n 0)
 
 -- zeros behind a list are what is read behind it
 pub zero-entry : (n k : ℕ) → getD {A = ℕ} (replicate n 0) k 0 ≡ 0

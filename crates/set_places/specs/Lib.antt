@@ -1,2 +1,1 @@
-pub mod Entries
 pub mod Places

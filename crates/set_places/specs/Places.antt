@@ -6,12 +6,11 @@ use lib.Dec.{eqb}
 use lib.ListN.{take, drop, replicate}
 use Rattle.laws.specs.First.{first}
 use Rattle.laws.specs.Front.{front}
-use Rattle.laws.specs.Every.{anyBelow, everyEntry}
+use Rattle.laws.specs.Every.{anyBelow, everyEntry, sameNumbers}
 use Rattle.bits.specs.Bits.{bitsOfBytes}
 use Rattle.card.specs.Layout.{mostSegments, layoutOr1}
 use Rattle.card_form.specs.Form.{cardSize, countOn}
 use Rattle.card_reader.specs.Reading.{Reading, refused, says, layoutOn, readOf}
-use Rattle.set_places.specs.Entries.{sameNumbers}
 
 -- how many places a set has
 abbrev pub places : ℕ

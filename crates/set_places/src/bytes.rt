@@ -1,7 +1,7 @@
 // Bytes compared. All are looked at, so that the compiler can take many at once.
 ghost use mathlib.Core.Path.{_≡_};
 ghost use lib.ListN.{length};
-ghost use Rattle.set_places.specs.Entries.{sameNumbers};
+ghost use Rattle.laws.specs.Every.{sameNumbers};
 ghost use Rattle.set_places.specs.Places.{allZero};
 
 // Whether every byte is 0.

@@ -2,7 +2,7 @@
 ghost use mathlib.Core.Path.{_≡_};
 ghost use Prim.Native.Nat.{_≤_, _<_, min};
 ghost use lib.ListN.{length, getD};
-ghost use Rattle.set_places.specs.Entries.{sameNumbers};
+ghost use Rattle.laws.specs.Every.{sameNumbers};
 ghost use Rattle.set_places.specs.Places.{places, placeSize, setSize, inPlace, lengthOn, lowestWith, placed};
 use crate::bytes::all_zero;
 use crate::bytes::same_bytes;
@@ -49,7 +49,7 @@ pub fn find_place(set: &[u8], card: &[u8]) -> usize
     let mut i = 0;
     loop {
         if i >= PLACES {
-            break i;
+            break PLACES;
         }
         let from = i * PLACE_SIZE;
         let to = from + PLACE_SIZE;

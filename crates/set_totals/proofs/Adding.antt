@@ -1,5 +1,5 @@
 -- A card's milliseconds added segment by segment: after i of them each key has what those give it.
-use mathlib.Core.Path.{_≡_, refl, sym, ap, ap₂, _∙_}
+use mathlib.Core.Path.{_≡_, refl, sym, ap, _∙_}
 use mathlib.Core.Bool.{Bool, false, cond}
 use mathlib.Core.List.{List}
 use Prim.Native.Nat.{ℕ, _+_, _-_, _^_, _<_, _≤_}
@@ -10,18 +10,18 @@ use lib.ListN.{length, getD, set, length-set}
 use lib.Seq.{getD-set-other}
 use borrow.Author.Tests.{ne-eqb}
 use Rattle.laws.proofs.Front.{list-set}
-use Rattle.card.specs.Layout.{Meaning, lastEnd}
+use Rattle.card.specs.Layout.{Meaning}
 use Rattle.card.specs.Rules.{cardSegment, startAt, cardBroken}
 use Rattle.card.specs.declared.layout.Layout.{Layout}
 use Rattle.card.specs.declared.layout.Segment.{Segment}
 use Rattle.card.proofs.Known.{Sound}
 use Rattle.card.proofs.Unbroken.{end-limited}
-use Rattle.set_places.specs.Entries.{sumBelow}
-use Rattle.set_places.proofs.Entries.{sum-none, sum-more}
+use Rattle.laws.specs.Sums.{sumBelow}
+use Rattle.laws.proofs.Sums.{sum-none, sum-more}
 use Rattle.set_totals.specs.Summary.{keyTime, keylessOf}
 use Rattle.set_totals.specs.inside.Numbers.{summaryNumbers, cardNumber, raised, more, CanAdd}
 use Rattle.set_totals.proofs.Times.{timeAt, time-own, time-other, next-start, key-small, no-time, in-order, times-so-far, start-limited}
-use Rattle.set_totals.proofs.Numbers.{more-none, more-same, more-at, more-long}
+use Rattle.set_totals.proofs.Numbers.{more-none, more-at, more-long}
 
 -- what the first i segments give a key
 abbrev soFar : Meaning → ℕ → ℕ → ℕ

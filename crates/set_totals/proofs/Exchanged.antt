@@ -1,11 +1,9 @@
 -- A place's content exchanged: each number grows by what the new content gives, and loses what the old one gave.
-use mathlib.Core.Path.{_≡_, refl, sym, ap, ap₂, subst, _∙_}
-use mathlib.Core.Bool.{Bool, true, false}
+use mathlib.Core.Path.{_≡_, sym, ap, subst, _∙_}
 use mathlib.Core.List.{List, []}
-use Prim.Native.Nat.{ℕ, _+_, _-_, _<_, _≤_}
+use Prim.Native.Nat.{ℕ, _+_, _<_, _≤_}
 use native.Mathlib.Omega.{arith}
-use lib.ListN.{length, getD, take, replicate}
-use Rattle.laws.specs.Front.{list}
+use lib.ListN.{length, getD, take}
 use Rattle.laws.proofs.Front.{list-same, length-list, getD-list}
 use Rattle.bits.specs.Bits.{bitsOfBytes}
 use Rattle.card.specs.Layout.{Meaning, mostSegments}
@@ -15,7 +13,7 @@ use Rattle.card_reader.specs.Reading.{judgedOf, readAs}
 use Rattle.card_reader.specs.declared.judge.CardJudged.{CardJudged}
 use Rattle.card_reader.specs.declared.judge.CardJudged.the-variants.{Readable}
 use Rattle.set_places.specs.Places.{places, placeSize, setSize, placeAt, lengthOn, cardIn, readWhole, isRead, inPlace, placed}
-use Rattle.set_places.proofs.Entries.{sum-changed, term-within}
+use Rattle.laws.proofs.Sums.{sum-changed, term-within}
 use Rattle.set_places.proofs.Zeros.{length-in-place, none-in-place}
 use Rattle.set_places.proofs.Changed.{place-same, place-other}
 use Rattle.set_places.proofs.InPlace.{card-in-place}
@@ -52,11 +50,11 @@ module _ (set : List ℕ) (i : ℕ) (whole : length set ≡ setSize) (inside : i
         ap (λ (xs : List ℕ). more (cardNumber m) xs) (numbers-are set)
         ∙ list-same _ (sumOver (placed i (inPlace card) set) places) summaryNumbers
         (λ k h.
-          let here = getD-list (sumOver set places) summaryNumbers k 0 h in
-          let sums = exchanged (inPlace card) (length-in-place card fits) k in
-          let before = ap (λ (bytes : List ℕ). readNumber (readWhole (cardIn bytes)) k) free ∙ free-gives k in
-          let after = card-gives card l fits readable k in
-          omega (arith, here, sums, before, after))
+        let here = getD-list (sumOver set places) summaryNumbers k 0 h in
+        let sums = exchanged (inPlace card) (length-in-place card fits) k in
+        let before = ap (λ (bytes : List ℕ). readNumber (readWhole (cardIn bytes)) k) free ∙ free-gives k in
+        let after = card-gives card l fits readable k in
+        omega (arith, here, sums, before, after))
         ∙ sym (numbers-are (placed i (inPlace card) set))
 
     -- a card taken out
@@ -66,11 +64,11 @@ module _ (set : List ℕ) (i : ℕ) (whole : length set ≡ setSize) (inside : i
         ap (λ (xs : List ℕ). less (cardNumber m) xs) (numbers-are set)
         ∙ list-same _ (sumOver (placed i (inPlace []) set) places) summaryNumbers
         (λ k h.
-          let here = getD-list (sumOver set places) summaryNumbers k 0 h in
-          let sums = exchanged (inPlace []) (length-in-place [] (omega arith)) k in
-          let before = ap (λ (bytes : List ℕ). readNumber (readWhole (cardIn bytes)) k) held ∙ card-gives card l fits readable k in
-          let after = free-gives k in
-          omega (arith, here, sums, before, after))
+        let here = getD-list (sumOver set places) summaryNumbers k 0 h in
+        let sums = exchanged (inPlace []) (length-in-place [] (omega arith)) k in
+        let before = ap (λ (bytes : List ℕ). readNumber (readWhole (cardIn bytes)) k) held ∙ card-gives card l fits readable k in
+        let after = free-gives k in
+        omega (arith, here, sums, before, after))
         ∙ sym (numbers-are (placed i (inPlace []) set))
 
     -- which the numbers allow

@@ -1,24 +1,23 @@
 -- What is read of bytes, in a summary's numbers: nothing of zeros, and of a card no more than a day.
-use mathlib.Core.Path.{_≡_, refl, sym, ap, subst, _∙_}
+use mathlib.Core.Path.{_≡_, refl, sym, _∙_}
 use mathlib.Core.Bool.{Bool, true, false, cond}
 use mathlib.Core.List.{List}
-use Prim.Native.Nat.{ℕ, zero, suc, _<_, _≤_}
+use Prim.Native.Nat.{ℕ, zero, suc, _≤_}
 use native.Mathlib.Omega.{arith}
 use lib.Dec.{eqb}
-use lib.ListN.{length, take, replicate}
+use lib.ListN.{take, replicate}
 use Rattle.bits.specs.Bits.{bitsOf, bitsOfBytes, numberOf}
 use Rattle.card.specs.Layout.{Meaning, lastEnd, mostSegments}
 use Rattle.card.specs.declared.layout.Layout.{Layout}
 use Rattle.card.specs.declared.layout.FoundLayout.{FoundLayout}
 use Rattle.card.specs.declared.layout.FoundLayout.the-variants.{Found, Missing}
-use Rattle.card.specs.declared.layout.Header.{Header}
 use Rattle.card_form.specs.Form.{meaningOn}
 use Rattle.card_reader.specs.Reading.{Reading, refused, says, layoutOn, judgedOf, readAs}
 use Rattle.card_reader.specs.declared.judge.CardJudged.{CardJudged}
 use Rattle.card_reader.specs.declared.judge.CardJudged.the-variants.{Refused, Readable}
-use Rattle.card_reader.proofs.Ready.{Ready, ready}
+use Rattle.card_reader.proofs.Ready.{ready}
 use Rattle.set_places.specs.Places.{readWhole, isRead}
-use Rattle.set_totals.specs.Summary.{keyTime, keylessOf}
+use Rattle.set_totals.specs.Summary.{keyTime}
 use Rattle.set_totals.specs.inside.Numbers.{cardNumber, readNumber}
 use Rattle.set_totals.proofs.Times.{key-time-limited}
 
@@ -39,6 +38,7 @@ zeros-unread n m = either (judgedOf bytes mostSegments) refl
   where
     bytes : List ℕ
     bytes = take n (replicate m 0)
+
     either : (j : CardJudged) → judgedOf bytes mostSegments ≡ j → isRead (readAs (bitsOfBytes bytes) j) ≡ false
     either (Refused number) e = refl
     either (Readable l) e = apart (sym (zeros-name-none n m) ∙ ready bytes mostSegments l e .known)

@@ -1,22 +1,21 @@
 -- A set's summary, number by number: each is a sum over the places.
 use mathlib.Core.Path.{_≡_, refl, sym, ap, ap₂, _∙_}
-use mathlib.Core.Bool.{Bool, true, false, cond}
+use mathlib.Core.Bool.{Bool, cond}
 use mathlib.Core.List.{List, [], _∷_, _++_, append-assoc}
 use Prim.Native.Nat.{ℕ, _+_, _*_, _<_, _≤_}
 use native.Mathlib.Omega.{arith}
 use lib.Dec.{eqb}
-use lib.ListN.{length, getD, replicate}
+use lib.ListN.{replicate}
 use mathlib.Core.Logic.{inl, inr}
 use Rattle.laws.proofs.Cases.{lt-or-ge}
 use borrow.Author.Tests.{ne-eqb}
 use Rattle.laws.specs.Front.{list}
 use Rattle.laws.proofs.Front.{list-more, list-same, replicate-list, length-list, getD-list}
 use Rattle.card.specs.Layout.{Meaning, lastEnd}
-use Rattle.card.specs.Rules.{noKey}
 use Rattle.card_reader.specs.Reading.{Reading, refused, says}
-use Rattle.set_places.specs.Entries.{sumBelow}
+use Rattle.laws.specs.Sums.{sumBelow}
 use Rattle.set_places.specs.Places.{places, placeAt, cardIn, readWhole}
-use Rattle.set_places.proofs.Entries.{sum-none, sum-more, sum-same, sum-limited}
+use Rattle.laws.proofs.Sums.{sum-none, sum-more, sum-same, sum-limited}
 use Rattle.set_places.proofs.Zeros.{getD-beyond}
 use Rattle.set_totals.specs.Summary.{keyTime, keylessOf, ofReading, overCards, summaryOf, numbersOf}
 use Rattle.set_totals.specs.inside.Numbers.{summaryNumbers, cardNumber, readNumber, more, CanAdd}

@@ -1,21 +1,21 @@
 -- A card's milliseconds by key: its segments follow each other, so no key has more than the last end.
-use mathlib.Core.Path.{_≡_, refl, sym, ap, subst, _∙_}
+use mathlib.Core.Path.{_≡_, sym, ap, _∙_}
 use mathlib.Core.Bool.{Bool, true, false, not, _&&_, cond}
 use mathlib.Core.List.{List}
-use Prim.Native.Nat.{ℕ, zero, suc, _+_, _-_, _<_, _≤_}
+use Prim.Native.Nat.{ℕ, zero, suc, _+_, _<_, _≤_}
 use native.Mathlib.Numerals.{add-one}
 use native.Mathlib.Omega.{arith}
 use lib.Dec.{eqb, leb}
 use lib.ListN.{length}
-use borrow.Author.Tests.{ltb-false, leb-false, eqb-true, eqb-false, eq-eqb, ne-eqb}
+use borrow.Author.Tests.{ltb-false, leb-false, eq-eqb, ne-eqb}
 use Rattle.laws.proofs.Table.{none-of}
 use Rattle.card.specs.Layout.{Meaning}
 use Rattle.card.specs.Rules.{cardSegment, startAt, segmentTests, segmentBroken, cardBroken}
 use Rattle.card.specs.declared.layout.Layout.{Layout}
 use Rattle.card.specs.declared.layout.Segment.{Segment}
 use Rattle.card.proofs.Unbroken.{segment-good, end-limited}
-use Rattle.set_places.specs.Entries.{sumBelow}
-use Rattle.set_places.proofs.Entries.{sum-none, sum-more, sum-same, sum-limited}
+use Rattle.laws.specs.Sums.{sumBelow}
+use Rattle.laws.proofs.Sums.{sum-none, sum-more, sum-limited}
 use Rattle.set_totals.specs.Summary.{segmentTime, keyTime}
 
 -- what segment i adds to a key

@@ -10,7 +10,7 @@ use Rattle.card.specs.Rules.{noKey, cardSegment, startAt}
 use Rattle.card.specs.declared.layout.Header.{Header}
 use Rattle.card.specs.declared.layout.Segment.{Segment}
 use Rattle.card_reader.specs.Reading.{Reading, refused, says}
-use Rattle.set_places.specs.Entries.{sumBelow}
+use Rattle.laws.specs.Sums.{sumBelow}
 use Rattle.set_places.specs.Places.{places, placeAt, cardIn, readWhole}
 
 -- ---- of one card

@@ -9,8 +9,8 @@ use card::layout::MOST_SEGMENTS;
 use card_reader::judge::CardJudged;
 use card_reader::judge::judge_card;
 use set_places::bytes::all_zero;
-use set_places::places::PLACES;
 use set_places::places::PLACE_SIZE;
+use set_places::places::PLACES;
 use set_places::places::card_end;
 
 // Adds the numbers of the card in a place, if there is one; returns whether the place is spoilt.

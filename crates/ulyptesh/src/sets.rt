@@ -19,7 +19,11 @@ pub extern "C" fn ulyptesh_add_card(set: &mut [u8], summary: &mut [u64], card: &
 // Frees the lowest place of a set with the card, and takes its numbers out of the summary. Refusals: as above, but
 // instead of 31, 32 no place with the card.
 #[no_mangle]
-pub extern "C" fn ulyptesh_remove_card(set: &mut [u8], summary: &mut [u64], card: &[u8]) -> SetChange
+pub extern "C" fn ulyptesh_remove_card(
+    set: &mut [u8],
+    summary: &mut [u64],
+    card: &[u8],
+) -> SetChange
     ensures { λ r. ⌜ setOutcome r (lentSet (set .exit) (summary .exit)) ≡ removeCall (now (card .entry)) (lentSet (set .entry) (summary .entry)) ⌝ }
 {
     remove_card(set, summary, card)

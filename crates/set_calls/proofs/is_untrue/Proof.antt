@@ -4,7 +4,7 @@ use borrow.Author.Tests.{eqb-true, not-false}
 use mathlib.Core.Path.{_≡_, refl, ap, ap₂, _∙_}
 use mathlib.Core.Bool.{Bool, not, _||_}
 use lib.ListN.{length}
-use Rattle.set_places.specs.Entries.{sameNumbers}
+use Rattle.laws.specs.Every.{sameNumbers}
 use Rattle.set_places.specs.Places.{setSize}
 use Rattle.set_calls.specs.Sets.{CardSet}
 use Rattle.set_calls.proofs.Truth.{by-size, by-content}

@@ -8,7 +8,7 @@ use lib.Dec.{eqb}
 use lib.ListN.{length}
 use Rattle.laws.specs.Every.{every}
 use Rattle.laws.proofs.Every.{every-more, every-all}
-use Rattle.set_places.proofs.Entries.{sameAt, as-long, not-as-long}
+use Rattle.laws.proofs.Same.{sameAt, as-long, not-as-long}
 use Rattle.set_calls.proofs.same_numbers.Statement.{statement}
 use Rattle.set_calls.proofs.same_numbers.Tie as tie
 

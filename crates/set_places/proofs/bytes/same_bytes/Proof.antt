@@ -6,7 +6,7 @@ use native.Mathlib.Omega.{arith}
 use lib.ListN.{length}
 use Rattle.laws.specs.Every.{every}
 use Rattle.laws.proofs.Every.{every-more, every-all}
-use Rattle.set_places.proofs.Entries.{sameAt, as-long}
+use Rattle.laws.proofs.Same.{sameAt, as-long}
 use Rattle.set_places.proofs.bytes.same_bytes.Statement.{statement}
 use Rattle.set_places.proofs.bytes.same_bytes.Tie as tie
 

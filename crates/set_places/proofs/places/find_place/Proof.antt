@@ -1,16 +1,16 @@
 -- A search that is left where a place holds the card.
 use borrow.Author.Needs.{needs}
-use mathlib.Core.Path.{_≡_, sym, ap, _∙_}
+use mathlib.Core.Path.{_≡_, ap, _∙_}
 use mathlib.Core.Bool.{Bool}
 use mathlib.Core.List.{List}
-use Prim.Native.Nat.{ℕ, _+_, _-_, _*_}
+use Prim.Native.Nat.{ℕ, _-_, _≤_}
 use native.Mathlib.Omega.{arith}
-use lib.ListN.{length, take, drop}
+use lib.ListN.{length}
 use Rattle.laws.specs.First.{first}
 use Rattle.laws.proofs.First.{first-start, first-again, first-out, first-end}
 use Rattle.laws.proofs.Table.{told}
-use Rattle.set_places.specs.Entries.{sameNumbers}
-use Rattle.set_places.specs.Places.{places, placeSize, placeAt, inPlace, lowestWith}
+use Rattle.laws.specs.Every.{sameNumbers}
+use Rattle.set_places.specs.Places.{places, placeAt, inPlace, lowestWith}
 use Rattle.set_places.proofs.Changed.{length-place, part-place}
 use Rattle.set_places.proofs.places.find_place.Statement.{statement}
 use Rattle.set_places.proofs.places.find_place.Tie as tie
@@ -20,14 +20,14 @@ abbrev holding : List ℕ → List ℕ → ℕ → Bool
 holding set card i = sameNumbers (placeAt set i) (inPlace card)
 
 abbrev Inv-loop : tie.InvT-loop
-Inv-loop set card i₀ i = first (holding set card) (places - i) i ≡ lowestWith (inPlace card) set
+Inv-loop set card i₀ i = (i ≤ places) × (first (holding set card) (places - i) i ≡ lowestWith (inPlace card) set)
 
 abbrev μ-loop : tie.MeasureT-loop
 μ-loop set card i₀ i = places - i
 
 loop-holds : tie.Need-loop-holds Inv-loop μ-loop
 unfolding lowestWith
-loop-holds c = first-start (holding (c .before .before .args .set .now) (c .before .before .args .card .now)) places
+loop-holds c = (omega arith, first-start (holding (c .before .before .args .set .now) (c .before .before .args .card .now)) places)
 
 mul-from : tie.Need-mul-from Inv-loop μ-loop
 mul-from c = search needs
@@ -69,19 +69,20 @@ loop-again c =
     let held = c .before in
     let turn = held .before .before .before in
     let args = turn .before .before .before .args in
-    first-again (holding (args .set .now) (args .card .now)) places (turn .loop .i) (turn .loop .inv) (held .before .before .if1 .left) (told (held-is held) (c .if2 .left))
+    (omega arith, first-again (holding (args .set .now) (args .card .now)) places (turn .loop .i) (turn .loop .inv .1) (held .before .before .if1 .left) (told (held-is held) (c .if2 .left)))
 
 returns : tie.Need-returns Inv-loop μ-loop
 returns c =
     let args = c .before .before .before .before .args in
-    first-end (holding (args .set .now) (args .card .now)) places (c .before .loop .i) (c .before .loop .inv) (c .if1 .taken)
+    let all : places ≡ c .before .loop .i = omega (arith, c .before .loop .inv .0, c .if1 .taken) in
+    all ∙ first-end (holding (args .set .now) (args .card .now)) places (c .before .loop .i) (c .before .loop .inv .1) (c .if1 .taken)
 
 returns-2 : tie.Need-returns-2 Inv-loop μ-loop
 returns-2 c =
     let held = c .before in
     let turn = held .before .before .before in
     let args = turn .before .before .before .args in
-    first-out (holding (args .set .now) (args .card .now)) places (turn .loop .i) (turn .loop .inv) (held .before .before .if1 .left) (told (held-is held) (c .if2 .taken))
+    first-out (holding (args .set .now) (args .card .now)) places (turn .loop .i) (turn .loop .inv .1) (held .before .before .if1 .left) (told (held-is held) (c .if2 .taken))
 
 pub find-place-spec : {M : Type 1} → statement M
 find-place-spec =

@@ -2,13 +2,11 @@
 use borrow.Author.Needs.{needs}
 use mathlib.Core.Path.{_≡_, sym, ap, ap₂, _∙_}
 use mathlib.Core.Bool.{Bool, _&&_}
-use mathlib.Core.List.{List}
-use Prim.Native.Nat.{ℕ, _-_, _≤_}
+use Prim.Native.Nat.{_-_}
 use native.Mathlib.Omega.{arith}
 use lib.ListN.{length, take, drop, length-drop}
 use lib.Seq.{length-take-le, take-all}
-use Rattle.set_places.specs.Entries.{sameNumbers}
-use Rattle.set_places.specs.Places.{placeSize, allZero}
+use Rattle.set_places.specs.Places.{allZero}
 use Rattle.set_places.proofs.Zeros.{holds-parts}
 use Rattle.set_places.proofs.places.holds.Statement.{statement}
 use Rattle.set_places.proofs.places.holds.Tie as tie

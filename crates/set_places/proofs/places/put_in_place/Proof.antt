@@ -4,7 +4,7 @@ use mathlib.Core.Path.{_≡_, ap₂}
 use mathlib.Core.List.{List, _++_}
 use Prim.Native.Nat.{ℕ, _+_, _-_, _*_}
 use native.Mathlib.Omega.{arith}
-use lib.ListN.{length, take, drop}
+use lib.ListN.{take, drop}
 use Rattle.set_places.specs.Places.{placeSize, placed}
 use Rattle.set_places.proofs.places.put_in_place.Statement.{statement}
 use Rattle.set_places.proofs.places.put_in_place.Tie as tie

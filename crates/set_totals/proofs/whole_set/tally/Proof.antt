@@ -3,7 +3,7 @@ use borrow.Author.Needs.{needs}
 use mathlib.Core.Path.{_≡_, refl, sym, ap, ap₂, subst, _∙_}
 use mathlib.Core.Bool.{Bool, _||_}
 use mathlib.Core.List.{List}
-use Prim.Native.Nat.{ℕ, _+_, _-_, _≤_}
+use Prim.Native.Nat.{ℕ, _-_, _≤_}
 use native.Mathlib.Omega.{arith}
 use lib.ListN.{length, length-replicate}
 use Rattle.laws.specs.Every.{anyBelow}
@@ -50,9 +50,10 @@ tally-place-requires : tie.Need-tally-place-requires Inv-loop μ-loop
 tally-place-requires c κs =
     let turn = c .before .before .before in
     let start = turn .before .before .before in
-    let set = start .args .set .now in
-    (ap length (part-place set (turn .loop .i)) ∙ length-place set (turn .loop .i) (start .pre .0) (c .before .before .loop-test .taken),
-      subst CanAdd (sym (turn .loop .inv .2)) (tallied-can set (turn .loop .i) (turn .loop .inv .0)))
+    let set = start .args .set .now in (
+      ap length (part-place set (turn .loop .i)) ∙ length-place set (turn .loop .i) (start .pre .0) (c .before .before .loop-test .taken),
+      subst CanAdd (sym (turn .loop .inv .2)) (tallied-can set (turn .loop .i) (turn .loop .inv .0)),
+    )
 
 add-i : tie.Need-add-i Inv-loop μ-loop
 add-i c = search needs
@@ -65,12 +66,13 @@ loop-again c =
     let turn = c .before .before .before .before .before .before in
     let set = turn .before .before .before .args .set .now in
     let place = c .before .before .tally-place .ensures in
-    let part = part-place set (turn .loop .i) in
-    (omega arith,
+    let part = part-place set (turn .loop .i) in (
+      omega arith,
       ap (λ (b : Bool). turn .loop .spoilt || b) (place .0 ∙ ap spoilt part) ∙ any-more (spoiltAt set) (turn .loop .i) (turn .loop .inv .1),
       place .1
-      ∙ ap₂ (λ (bytes numbers : List ℕ). more (readNumber (readWhole (cardIn bytes))) numbers) part (turn .loop .inv .2)
-      ∙ tallied-more set (turn .loop .i))
+          ∙ ap₂ (λ (bytes numbers : List ℕ). more (readNumber (readWhole (cardIn bytes))) numbers) part (turn .loop .inv .2)
+          ∙ tallied-more set (turn .loop .i),
+    )
 
 same-length : tie.Need-same-length Inv-loop μ-loop
 same-length c = ap length (c .before .loop .inv .2) ∙ length-list (sumOver _ _) summaryNumbers ∙ sym (ap length (c .before .before .before .before .pre .1) ∙ length-replicate {A = ℕ} summaryNumbers 0)
