@@ -2,3 +2,4 @@
 pub mod Zeros
 pub mod Changed
 pub mod InPlace
+pub mod Sound

@@ -48,7 +48,7 @@ overCards of set = sumBelow (λ (i : ℕ). ofReading of (readWhole (cardIn (plac
 unfoldable pub summaryOf : List ℕ → Summary
 summaryOf set =
     record {
-      totals = list (λ (key : ℕ). overCards (λ (m : Meaning). keyTime m key) set) noKey;
+      totals = list (λ (key : ℕ). overCards (λ (m : Meaning). keyTime m key) set) 24;
       cards = overCards (λ (m : Meaning). 1) set;
       keyless = overCards (λ (m : Meaning). keylessOf (m .header)) set;
     }
