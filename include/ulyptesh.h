@@ -4,8 +4,9 @@
    The calls are proved for one floating-point environment: round to nearest, ties to even, with subnormal numbers kept
    (neither flush to zero nor denormals are zero). A program starts so, and a thread starts as the one that made it was.
    Audio hosts often set flush to zero on their audio threads, and -ffast-math may set it for a whole program: whoever
-   sets it must reset it around a call. The library neither reads nor sets it. ulyptesh_read_card and
-   ulyptesh_write_packed_card use no floats and hold in any floating-point environment.
+   sets it must reset it around a call. The library neither reads nor sets it. ulyptesh_read_card,
+   ulyptesh_write_packed_card, ulyptesh_add_card and ulyptesh_remove_card use no floats and hold in any floating-point
+   environment.
 
    The library allocates nothing, keeps no pointer and has no state. A slice is a pointer and a count of entries, and
    may be NULL where the count is 0. A slice that is written to overlaps no other, and the answer overlaps no slice. A
@@ -61,9 +62,23 @@ extern "C" {
 #define ULYPTESH_CARD_BYTES(segments) ULYPTESH_LAYOUT_2_BYTES(segments)
 /* Rows that suffice for a card of so many bytes, 7 or more, in either layout. */
 #define ULYPTESH_CARD_SEGMENTS(bytes) ((8 * (size_t)(bytes) - 49) / 39)
+/* A set of cards: so many places, of so many bytes each; place p is the bytes from p * ULYPTESH_PLACE_BYTES on. A place
+   is free where all its bytes are 0, else it has a card at its front and zeros behind it. The longest card that fits
+   has 511 bytes: 96 segments in layout 2, or 103 in layout 1 with 509. */
+#define ULYPTESH_SET_PLACES 1024
+#define ULYPTESH_PLACE_BYTES 512
+/* Bytes of a whole set. */
+#define ULYPTESH_SET_BYTES ((size_t)ULYPTESH_SET_PLACES * ULYPTESH_PLACE_BYTES)
+/* The summary of a set: so many numbers. Those before ULYPTESH_KEYS are, by key number, the milliseconds of the key's
+   segments on all cards of the set. An empty set and its summary are all zeros. */
+#define ULYPTESH_SUMMARY_NUMBERS 26
+/* Where a summary has the number of cards, and how many of them have no key. */
+#define ULYPTESH_SUMMARY_CARDS 24
+#define ULYPTESH_SUMMARY_WITHOUT_KEY 25
 
-/* Why a call refuses. The first of 1, 2, 3, 13, 4, 5, 6, 7 and 8 that applies is answered, in this order, and the first
-   of 20 to 24. All but 9 write nothing but the answer. Numbers that are missing are not given. */
+/* Why a call refuses. The first of 1, 2, 3, 13, 4, 5, 6, 7 and 8 that applies is answered, in this order; where a card
+   is read the first of 20 to 24, and where a set is changed the first of 33, 20, 21, 22, 23, 30, 31 and 32. All but 9
+   write nothing but the answer. Numbers that are missing are not given. */
 typedef enum UlypteshRefusal {
     /* not refused; a track that tells no key has this too, with key 24 */
     ULYPTESH_DONE = 0,
@@ -93,16 +108,25 @@ typedef enum UlypteshRefusal {
     ULYPTESH_UNKNOWN_ENGINE = 13,
     /* scores, key: a chroma not of 12 numbers, or room for fewer than 24 scores */
     ULYPTESH_WRONG_LENGTH = 18,
-    /* read card: under 7 bytes or, where the layout is known, another length than the card's segment count gives */
+    /* read card, sets: under 7 bytes or, where the layout is known, another length than the segment count gives */
     ULYPTESH_CARD_WRONG_LENGTH = 20,
-    /* read card: the layout is neither 1 nor 2 */
+    /* read card, sets: the layout is neither 1 nor 2 */
     ULYPTESH_CARD_UNKNOWN_LAYOUT = 21,
-    /* read card: a card rule is broken, or a bit that fills the last byte is set */
+    /* read card, sets: a card rule is broken, or a bit that fills the last byte is set */
     ULYPTESH_CARD_BROKEN = 22,
-    /* read card: the layout is 2, and layout 1 would have held the card */
+    /* read card, sets: the layout is 2, and layout 1 would have held the card */
     ULYPTESH_CARD_NEEDLESS_LAYOUT = 23,
     /* read card: fewer segment rows are lent than the card has segments */
-    ULYPTESH_TOO_FEW_CARD_ROWS = 24
+    ULYPTESH_TOO_FEW_CARD_ROWS = 24,
+    /* sets: the card is longer than a place, 512 bytes */
+    ULYPTESH_CARD_TOO_LONG = 30,
+    /* add card: no place is free */
+    ULYPTESH_SET_FULL = 31,
+    /* remove card: no place has a card of these bytes */
+    ULYPTESH_NO_SUCH_CARD = 32,
+    /* sets: the set or the summary has another size, a place is neither free nor a card with zeros behind it, or the
+       summary is not what the set's cards give */
+    ULYPTESH_SET_NOT_TRUE = 33
 } UlypteshRefusal;
 
 /* How the Goertzel magnitudes of a frame's notes are worked out. Both engines give the same numbers, bit for bit, so
@@ -194,6 +218,12 @@ typedef struct UlypteshCardRead {
     uint32_t confidence; /* of the key, in thousandths */
     uint64_t segments; /* how many rows are written */
 } UlypteshCardRead;
+
+/* place: the place of the set that was changed, from 0; 0 where the call is refused. */
+typedef struct UlypteshSetChange {
+    uint32_t refusal;
+    uint32_t place;
+} UlypteshSetChange;
 
 /* Writes the loud frames of a track. P, the frame positions, is (samples - frame size) / hop size, rounded down,
    plus 1. */
@@ -289,6 +319,22 @@ UlypteshWritten ulyptesh_write_packed_card(
     const uint16_t *confidences, size_t confidence_count, /* as many; in thousandths */
     uint8_t *bytes, size_t byte_count); /* ULYPTESH_CARD_BYTES of the segments; the card, from the front */
 
+/* Puts a card into the lowest free place of a set, and its numbers into the summary: each segment's milliseconds count
+   for its key. A card that is there already is put there once more. Each call on a set first reads all of it and works
+   its summary out afresh, so whoever kept the two need not be trusted: where they differ, that is 33. After a call that
+   is not refused the summary is again what working it out afresh gives. */
+UlypteshSetChange ulyptesh_add_card(
+    uint8_t *set, size_t set_count, /* ULYPTESH_SET_BYTES, exactly; one place changes */
+    uint64_t *summary, size_t summary_count, /* ULYPTESH_SUMMARY_NUMBERS, exactly */
+    const uint8_t *card, size_t card_count); /* the card, exactly */
+
+/* Takes a card out again: the lowest place with the same bytes becomes zeros, and the card's numbers leave the summary.
+   The others stay where they are. */
+UlypteshSetChange ulyptesh_remove_card(
+    uint8_t *set, size_t set_count, /* as above */
+    uint64_t *summary, size_t summary_count, /* as above */
+    const uint8_t *card, size_t card_count); /* the card, exactly; a copy, where it is the set's own */
+
 /* The number of the library's interface: ULYPTESH_ABI where this header is the library's own. */
 uint32_t ulyptesh_abi(void);
 
@@ -303,6 +349,7 @@ ULYPTESH_IS_OF(UlypteshWritten, 16);
 ULYPTESH_IS_OF(UlypteshFramesResult, 24);
 ULYPTESH_IS_OF(UlypteshAnalyseResult, 112);
 ULYPTESH_IS_OF(UlypteshCardRead, 32);
+ULYPTESH_IS_OF(UlypteshSetChange, 8);
 #undef ULYPTESH_IS_OF
 
 #ifdef __cplusplus

@@ -98,6 +98,8 @@ static int no_slices(void)
     UlypteshCardRead read;
     ulyptesh_read_card(&read, NULL, 0, NULL, 0, NULL, 0, NULL, 0, NULL, 0);
     UlypteshScoresResult scored = ulyptesh_scores(NULL, 0, NULL, 0);
+    UlypteshSetChange added = ulyptesh_add_card(NULL, 0, NULL, 0, NULL, 0),
+                      taken = ulyptesh_remove_card(NULL, 0, NULL, 0, NULL, 0);
     return HOLDS(told.refusal == ULYPTESH_DONE && told.key == ULYPTESH_NO_KEY && told.segments == 0)
         && HOLDS(told.shapeless == 0 && found.shapeless == 0 && scored.shapeless == 0)
         && HOLDS(frames.refusal == ULYPTESH_DONE && frames.count == 0)
@@ -106,7 +108,9 @@ static int no_slices(void)
         && HOLDS(ulyptesh_write_key_name(0, NULL, 0).refusal == ULYPTESH_TOO_FEW_BYTES)
         && HOLDS(card.refusal == ULYPTESH_TOO_FEW_BYTES && card.length == 0)
         && HOLDS(packed.refusal == ULYPTESH_TOO_FEW_BYTES && packed.length == 0)
-        && HOLDS(read.refusal == ULYPTESH_CARD_WRONG_LENGTH && read.key == ULYPTESH_NO_KEY && read.segments == 0);
+        && HOLDS(read.refusal == ULYPTESH_CARD_WRONG_LENGTH && read.key == ULYPTESH_NO_KEY && read.segments == 0)
+        && HOLDS(added.refusal == ULYPTESH_SET_NOT_TRUE && added.place == 0)
+        && HOLDS(taken.refusal == ULYPTESH_SET_NOT_TRUE && taken.place == 0);
 }
 
 /* A note above the rate has no rows in a sheet, so all slices of its sheet but the window are of no entries. */
@@ -658,6 +662,175 @@ static int cards_rounded(void)
     return HOLDS(fesetround(FE_TONEAREST) == 0) && done;
 }
 
+/* Sets: a set with its summary, and both as they were before a call */
+
+typedef struct Set {
+    uint8_t bytes[ULYPTESH_SET_BYTES];
+    uint64_t summary[ULYPTESH_SUMMARY_NUMBERS];
+} Set;
+
+static Set set, before;
+
+static UlypteshSetChange add(const uint8_t *card, size_t count)
+{
+    return ulyptesh_add_card(set.bytes, sizeof set.bytes, set.summary, ULYPTESH_SUMMARY_NUMBERS, card, count);
+}
+
+static UlypteshSetChange take_out(const uint8_t *card, size_t count)
+{
+    return ulyptesh_remove_card(set.bytes, sizeof set.bytes, set.summary, ULYPTESH_SUMMARY_NUMBERS, card, count);
+}
+
+static int changed(UlypteshSetChange change, uint32_t place)
+{
+    return HOLDS(change.refusal == ULYPTESH_DONE && change.place == place);
+}
+
+/* Whether a call refuses so, with nothing changed since before. */
+static int unchanged(UlypteshSetChange change, uint32_t refusal)
+{
+    return HOLDS(change.refusal == refusal && change.place == 0) && HOLDS(memcmp(&set, &before, sizeof set) == 0);
+}
+
+/* Whether both calls refuse a card so. */
+static int both_refuse(uint32_t refusal, const uint8_t *card, size_t count)
+{
+    before = set;
+    return unchanged(add(card, count), refusal) && unchanged(take_out(card, count), refusal);
+}
+
+/* Whether a place has this card and zeros behind it. */
+static int place_has(size_t place, const uint8_t *card, size_t count)
+{
+    const uint8_t *bytes = set.bytes + place * ULYPTESH_PLACE_BYTES;
+    int same = count == 0 || memcmp(bytes, card, count) == 0;
+    for (size_t at = count; at < ULYPTESH_PLACE_BYTES; at++)
+        same = same && bytes[at] == 0;
+    return same;
+}
+
+/* Whether the summary has these milliseconds of A minor, none of other keys, and these counts. */
+static int summary_is(uint64_t milliseconds, uint64_t cards, uint64_t without_key)
+{
+    int same = set.summary[ULYPTESH_SUMMARY_CARDS] == cards
+        && set.summary[ULYPTESH_SUMMARY_WITHOUT_KEY] == without_key;
+    for (size_t key = 0; key < ULYPTESH_KEYS; key++)
+        same = same && set.summary[key] == (key == 21 ? milliseconds : 0);
+    return same;
+}
+
+/* Rows o, p and o again, in the three lowest places. */
+static int three_added(void)
+{
+    memset(&set, 0, sizeof set);
+    return changed(add(ONE, sizeof ONE), 0) && changed(add(NONE, sizeof NONE), 1) && changed(add(ONE, sizeof ONE), 2)
+        && HOLDS(summary_is(360000, 3, 1) && place_has(0, ONE, sizeof ONE) && place_has(1, NONE, sizeof NONE))
+        && HOLDS(place_has(2, ONE, sizeof ONE) && place_has(3, NULL, 0) && place_has(1023, NULL, 0));
+}
+
+/* Of equal cards the lowest goes, and the next card takes its place; without cards all is 0 again. */
+static int set_places(void)
+{
+    int done = three_added() && changed(take_out(ONE, sizeof ONE), 0) && HOLDS(summary_is(180000, 2, 1))
+        && HOLDS(place_has(0, NULL, 0) && place_has(2, ONE, sizeof ONE)) && changed(add(NONE, sizeof NONE), 0)
+        && changed(take_out(NONE, sizeof NONE), 0) && changed(take_out(NONE, sizeof NONE), 1)
+        && changed(take_out(ONE, sizeof ONE), 2);
+    memset(&before, 0, sizeof before);
+    return done && unchanged(take_out(ONE, sizeof ONE), ULYPTESH_NO_SUCH_CARD);
+}
+
+/* Whether the card of so many segments up to this end just fits a place, and that of one more is too long. */
+static int longest_in_set(size_t segments, uint32_t last, size_t bytes, size_t too_many)
+{
+    return card_has(bytes, last, segments) && changed(add(card_bytes, bytes), 3)
+        && changed(take_out(card_bytes, bytes), 3) && card_has(too_many, last, segments + 1)
+        && both_refuse(ULYPTESH_CARD_TOO_LONG, card_bytes, too_many);
+}
+
+/* No card by each number, one that is not there, and in each layout cards that just fit and that are too long. */
+static int sets_refuse_cards(void)
+{
+    uint8_t layout[] = ROW_P, rule[] = ROW_O, needless[] = ROW_O_IN_2, absent[] = ROW_O;
+    layout[0] ^= 0x20;
+    rule[2] ^= 0x20;
+    absent[sizeof absent - 1] ^= 0x08;
+    return three_added() && both_refuse(ULYPTESH_CARD_WRONG_LENGTH, NULL, 0)
+        && both_refuse(ULYPTESH_CARD_WRONG_LENGTH, ONE, sizeof ONE - 1)
+        && both_refuse(ULYPTESH_CARD_UNKNOWN_LAYOUT, layout, sizeof layout)
+        && both_refuse(ULYPTESH_CARD_BROKEN, rule, sizeof rule)
+        && both_refuse(ULYPTESH_CARD_NEEDLESS_LAYOUT, needless, sizeof needless)
+        && unchanged(take_out(absent, sizeof absent), ULYPTESH_NO_SUCH_CARD)
+        && longest_in_set(103, LAST_OF_1, 509, 514) && longest_in_set(96, LAST_OF_2, 511, 516)
+        && HOLDS(summary_is(360000, 3, 1));
+}
+
+/* Whether the set is refused, also where the card is none. */
+static int refused_as_spoilt(void)
+{
+    return both_refuse(ULYPTESH_SET_NOT_TRUE, ONE, sizeof ONE) && both_refuse(ULYPTESH_SET_NOT_TRUE, NULL, 0);
+}
+
+/* A layout, an end, a byte behind a card, free places; each number of the summary. Put right, the set is taken. */
+static int sets_spoilt(void)
+{
+    static const size_t PLACES[] = {0, 7, sizeof ONE, 511, 512, 519, 3 * 512, ULYPTESH_SET_BYTES - 1};
+    int done = three_added();
+    for (size_t at = 0; at < sizeof PLACES / sizeof *PLACES; at++) {
+        set.bytes[PLACES[at]] ^= 0x20;
+        done = done && refused_as_spoilt();
+        set.bytes[PLACES[at]] ^= 0x20;
+    }
+    for (size_t at = 0; at < ULYPTESH_SUMMARY_NUMBERS; at++) {
+        set.summary[at]++;
+        done = done && refused_as_spoilt();
+        set.summary[at]--;
+    }
+    return done && changed(take_out(NONE, sizeof NONE), 1);
+}
+
+/* Whether a set and a summary of these sizes are refused by both calls. */
+static int size_refused(size_t bytes, size_t numbers)
+{
+    before = set;
+    return unchanged(ulyptesh_add_card(set.bytes, bytes, set.summary, numbers, ONE, sizeof ONE), ULYPTESH_SET_NOT_TRUE)
+        && unchanged(ulyptesh_remove_card(set.bytes, bytes, set.summary, numbers, ONE, sizeof ONE),
+                     ULYPTESH_SET_NOT_TRUE);
+}
+
+static int set_sizes(void)
+{
+    size_t bytes = ULYPTESH_SET_BYTES, numbers = ULYPTESH_SUMMARY_NUMBERS;
+    return three_added() && size_refused(0, numbers) && size_refused(bytes - 1, numbers)
+        && size_refused(bytes - ULYPTESH_PLACE_BYTES, numbers) && size_refused(bytes, 0)
+        && size_refused(bytes, numbers - 1);
+}
+
+/* All places taken: no card is added, and one that is taken out makes room. */
+static int set_full(void)
+{
+    memset(&set, 0, sizeof set);
+    for (size_t place = 0; place < ULYPTESH_SET_PLACES; place++)
+        memcpy(set.bytes + place * ULYPTESH_PLACE_BYTES, ONE, sizeof ONE);
+    set.summary[21] = (uint64_t)180000 * ULYPTESH_SET_PLACES;
+    set.summary[ULYPTESH_SUMMARY_CARDS] = ULYPTESH_SET_PLACES;
+    before = set;
+    return unchanged(add(NONE, sizeof NONE), ULYPTESH_SET_FULL)
+        && both_refuse(ULYPTESH_CARD_WRONG_LENGTH, ONE, sizeof ONE - 1) && changed(take_out(ONE, sizeof ONE), 0)
+        && changed(add(NONE, sizeof NONE), 0) && HOLDS(summary_is((uint64_t)180000 * 1023, 1024, 1))
+        && changed(take_out(ONE, sizeof ONE), 1);
+}
+
+/* Sets whichever way floats are rounded, with no sign of a float worked out. */
+static int sets_rounded(void)
+{
+    static const int WAYS[] = {FE_UPWARD, FE_DOWNWARD, FE_TOWARDZERO};
+    int done = HOLDS(feclearexcept(FE_ALL_EXCEPT) == 0);
+    for (size_t at = 0; at < sizeof WAYS / sizeof *WAYS; at++)
+        done = done && HOLDS(fesetround(WAYS[at]) == 0) && set_places() && sets_refuse_cards() && set_full()
+            && HOLDS(fetestexcept(FE_ALL_EXCEPT) == 0);
+    return HOLDS(fesetround(FE_TONEAREST) == 0) && done;
+}
+
 /* Whether settings are refused so, with nothing made. */
 static int refused(UlypteshSettings settings, uint32_t expected)
 {
@@ -870,6 +1043,12 @@ static const struct {
     {"largest-card", largest_card},
     {"ends-rounded-down", ends_rounded_down},
     {"cards-rounded", cards_rounded},
+    {"set-places", set_places},
+    {"sets-refuse-cards", sets_refuse_cards},
+    {"sets-spoilt", sets_spoilt},
+    {"set-sizes", set_sizes},
+    {"set-full", set_full},
+    {"sets-rounded", sets_rounded},
     {"settings-refused", settings_refused},
     {"longest-track", longest_track},
     {"engines-agree", engines_agree},

@@ -457,6 +457,10 @@ const char *ulyptesh_easy_words(uint32_t status)
     case ULYPTESH_CARD_BROKEN: return "the card breaks a card rule, or a bit behind its last field is set";
     case ULYPTESH_CARD_NEEDLESS_LAYOUT: return "the card is in layout 2, and layout 1 would have held it";
     case ULYPTESH_TOO_FEW_CARD_ROWS: return "the card needs more segment rows";
+    case ULYPTESH_CARD_TOO_LONG: return "the card is longer than a place of a set";
+    case ULYPTESH_SET_FULL: return "the set is full";
+    case ULYPTESH_NO_SUCH_CARD: return "the set has no such card";
+    case ULYPTESH_SET_NOT_TRUE: return "these are no set and its summary";
     case ULYPTESH_EASY_NO_MEMORY: return "too little memory";
     case ULYPTESH_EASY_OTHER_LIBRARY: return "the library has another interface than its header";
     case ULYPTESH_EASY_NOTHING_ANALYSED: return "by these settings no track is analysed";

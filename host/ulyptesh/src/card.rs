@@ -1,7 +1,7 @@
 //! Key cards, as decks read them.
 use crate::calls::{
-    CardFields, LONGEST_CARD, MOST_CARD_SEGMENTS, NO_KEY, PackedFields, UNWRITABLE, Written, read_card,
-    write_card, write_packed_card,
+    CardFields, LONGEST_CARD, MOST_CARD_SEGMENTS, NO_KEY, PLACE_BYTES, PackedFields, UNWRITABLE, Written,
+    read_card, write_card, write_packed_card,
 };
 use crate::found::Analysis;
 use crate::keys::Key;
@@ -42,7 +42,7 @@ impl fmt::Display for CardError {
 impl Error for CardError {}
 
 /// The bytes of a card, by the call that writes them.
-fn written(write: impl FnOnce(&mut [u8]) -> Written) -> Result<Vec<u8>, CardError> {
+pub fn written(write: impl FnOnce(&mut [u8]) -> Written) -> Result<Vec<u8>, CardError> {
     let mut bytes = vec![0; LONGEST_CARD];
     match write(&mut bytes) {
         Written { refusal: 0, length } => Ok(bytes[..length].to_vec()),
@@ -59,6 +59,19 @@ pub fn card(fields: &CardFields<'_>) -> Result<Vec<u8>, CardError> {
 /// The layout that bytes name, in their first four bits.
 pub fn layout_of(bytes: &[u8]) -> u8 {
     bytes.first().map_or(0, |first| first >> 4)
+}
+
+/// The card at the front of a set's place, as long as layout and segment count say; all of the place where they say
+/// nothing that fits.
+pub fn card_in(place: &[u8; PLACE_BYTES]) -> &[u8] {
+    let front = place.first_chunk().map_or(0, |front| u64::from_be_bytes(*front));
+    // the count stands behind 39 bits, in 10 of layout 1 and in 12 of layout 2
+    let bits = match layout_of(place) {
+        1 => 49 + 39 * (front << 39 >> 54),
+        2 => 51 + 42 * (front << 39 >> 52),
+        _ => return place,
+    };
+    place.get(..bits.div_ceil(8) as usize).unwrap_or(place)
 }
 
 /// A key's number, or that of a missing one.
@@ -243,7 +256,7 @@ impl TryFrom<&Analysis> for Card {
 mod tests {
     use super::*;
     use crate::calls::SHORTEST_CARD;
-    use crate::made::{Told, all_told, analysis, key_by_counting};
+    use crate::made::{Told, all_told, analysis, card_of_count, card_up_to, key_by_counting};
 
     /// Rows o and p of the request: a lone segment of three minutes in A minor, and the empty analysis.
     const ROW_O: [u8; 11] = [0x1A, 0xD7, 0x00, 0x03, 0xE8, 0x00, 0x81, 0x5F, 0x90, 0x55, 0xF4];
@@ -264,28 +277,6 @@ mod tests {
 
     fn card_of(told: &Told) -> Card {
         Card::try_from(&analysis(told)).expect("no rule is broken")
-    }
-
-    /// The card of segments in A minor up to these milliseconds.
-    fn card_up_to(ends: &[u32]) -> Result<Vec<u8>, CardError> {
-        let (key, count) = (if ends.is_empty() { NO_KEY } else { 21 }, ends.len());
-        let fields = PackedFields {
-            key,
-            dsp_key: key,
-            alternate: NO_KEY,
-            coverage: 0,
-            confidence: 0,
-            starts: &[&[0], ends].concat()[..count],
-            ends,
-            keys: &vec![21; count],
-            confidences: &vec![500; count],
-        };
-        written(|bytes| write_packed_card(&fields, bytes))
-    }
-
-    /// A millisecond for each of so many segments.
-    fn card_of_count(count: u32) -> Result<Vec<u8>, CardError> {
-        card_up_to(&(1..=count).collect::<Vec<_>>())
     }
 
     /// Layout, bytes, segments and end of a card that is read, and written again as it was.

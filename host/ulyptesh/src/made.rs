@@ -1,5 +1,6 @@
-//! Analyses that are made for tests, and what is told of them by other means.
-use crate::calls::NO_KEY;
+//! Analyses and cards that are made for tests, and what is told of them by other means.
+use crate::calls::{NO_KEY, PackedFields, write_packed_card};
+use crate::card::{CardError, written};
 use crate::found::{Alternate, Analysis, Segment};
 use crate::keys::Key;
 use std::iter;
@@ -24,7 +25,7 @@ pub struct Told {
 pub struct Random(pub u64);
 
 impl Random {
-    fn below(&mut self, limit: u64) -> u64 {
+    pub fn below(&mut self, limit: u64) -> u64 {
         self.0 = self.0.wrapping_add(0x9e37_79b9_7f4a_7c15);
         let once = (self.0 ^ (self.0 >> 30)).wrapping_mul(0xbf58_476d_1ce4_e5b9);
         let twice = (once ^ (once >> 27)).wrapping_mul(0x94d0_49bb_1331_11eb);
@@ -93,6 +94,28 @@ pub fn analysis(told: &Told) -> Analysis {
         shapeless_estimate_count: 0,
         duration: told.ends.last().copied().unwrap_or_default(),
     }
+}
+
+/// The card of segments in A minor up to these milliseconds.
+pub fn card_up_to(ends: &[u32]) -> Result<Vec<u8>, CardError> {
+    let (key, count) = (if ends.is_empty() { NO_KEY } else { 21 }, ends.len());
+    let fields = PackedFields {
+        key,
+        dsp_key: key,
+        alternate: NO_KEY,
+        coverage: 0,
+        confidence: 0,
+        starts: &[&[0], ends].concat()[..count],
+        ends,
+        keys: &vec![21; count],
+        confidences: &vec![500; count],
+    };
+    written(|bytes| write_packed_card(&fields, bytes))
+}
+
+/// A millisecond for each of so many segments.
+pub fn card_of_count(count: u32) -> Result<Vec<u8>, CardError> {
+    card_up_to(&(1..=count).collect::<Vec<_>>())
 }
 
 /// As many segments lie before a point as end at or before it; none counts where the point is not on the track.

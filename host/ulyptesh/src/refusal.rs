@@ -1,7 +1,8 @@
-//! Why a track was not analysed or a card not read, in words and by the library's number.
+//! Why a track was not analysed, a card not read or a set not changed, in words and by the library's number.
 use crate::calls::{
-    CARD_BROKEN, CARD_NEEDLESS_LAYOUT, CARD_UNKNOWN_LAYOUT, CARD_WRONG_LENGTH, LONGEST_CARD,
-    LONGEST_TRACK_SECONDS, SHORTEST_CARD, TOO_FEW_CARD_ROWS,
+    CARD_BROKEN, CARD_NEEDLESS_LAYOUT, CARD_TOO_LONG, CARD_UNKNOWN_LAYOUT, CARD_WRONG_LENGTH, LONGEST_CARD,
+    LONGEST_TRACK_SECONDS, NO_SUCH_CARD, PLACE_BYTES, SET_FULL, SET_NOT_TRUE, SET_PLACES, SHORTEST_CARD,
+    TOO_FEW_CARD_ROWS,
 };
 use crate::card::layout_of;
 use crate::settings::{Engine, Settings};
@@ -88,6 +89,19 @@ pub enum Refusal {
     CardNeedlessLayout,
     /// 24: fewer rows are lent than the card has segments.
     TooFewCardRows,
+    /// 30: the card is longer than a place of a set, 512 bytes.
+    #[non_exhaustive]
+    CardTooLong {
+        /// How many bytes it has.
+        length: usize,
+    },
+    /// 31: no place of the set is free.
+    SetFull,
+    /// 32: no place of the set has a card of these bytes.
+    NoSuchCard,
+    /// 33: the set or its summary has another size, a place is neither free nor a card with zeros behind it, or the
+    /// summary is not what the set's cards give.
+    SetNotTrue,
     /// A number that this crate does not know.
     #[non_exhaustive]
     Unknown {
@@ -130,6 +144,15 @@ fn wrong_length(length: usize) -> String {
     }
 }
 
+/// Why no set takes a card of this length.
+fn too_long(length: usize) -> String {
+    format!("the card has {length} bytes, and a set takes cards of up to {PLACE_BYTES}")
+}
+
+/// Why a set is not changed at all.
+const NOT_TRUE: &str =
+    "the set has another size or holds what is no card, or its summary is not that of its cards";
+
 impl Refusal {
     /// What the library's number means for this call; the position is a frame's. 0 stands for settings with which
     /// nothing is analysed.
@@ -163,6 +186,17 @@ impl Refusal {
         }
     }
 
+    /// What the library's number means for these bytes, as a card to put into a set or to take out.
+    pub fn of_set(number: u32, bytes: &[u8]) -> Self {
+        match number {
+            CARD_TOO_LONG => Self::CardTooLong { length: bytes.len() },
+            SET_FULL => Self::SetFull,
+            NO_SUCH_CARD => Self::NoSuchCard,
+            SET_NOT_TRUE => Self::SetNotTrue,
+            _ => Self::of_card(number, bytes),
+        }
+    }
+
     /// The library's number; 0 for settings that it takes and with which it analyses nothing.
     pub fn number(&self) -> u32 {
         match *self {
@@ -182,6 +216,10 @@ impl Refusal {
             Self::CardBroken => CARD_BROKEN,
             Self::CardNeedlessLayout => CARD_NEEDLESS_LAYOUT,
             Self::TooFewCardRows => TOO_FEW_CARD_ROWS,
+            Self::CardTooLong { .. } => CARD_TOO_LONG,
+            Self::SetFull => SET_FULL,
+            Self::NoSuchCard => NO_SUCH_CARD,
+            Self::SetNotTrue => SET_NOT_TRUE,
             Self::Unknown { number } => number,
         }
     }
@@ -216,6 +254,10 @@ impl Refusal {
             Self::CardBroken => "the card breaks a card rule, or a bit behind its last field is set".into(),
             Self::CardNeedlessLayout => "the card is in layout 2, and layout 1 would have held it".into(),
             Self::TooFewCardRows => "fewer rows were lent than the card has segments".into(),
+            Self::CardTooLong { length } => too_long(*length),
+            Self::SetFull => format!("the set is full: it has {SET_PLACES} cards"),
+            Self::NoSuchCard => "the set has no such card".into(),
+            Self::SetNotTrue => NOT_TRUE.into(),
             Self::Unknown { .. } => "refused for a reason unknown here".into(),
         }
     }
@@ -254,6 +296,13 @@ mod tests {
     fn refusals_of_cards_tell_their_number() {
         for number in (20..=24).chain([99]) {
             tells(Refusal::of_card(number, &[0x30; SHORTEST_CARD]), number, number != 99);
+        }
+    }
+
+    #[test]
+    fn refusals_of_sets_tell_their_number() {
+        for number in (20..=23).chain(30..=33).chain([99]) {
+            tells(Refusal::of_set(number, &[0x30; SHORTEST_CARD]), number, number != 99);
         }
     }
 }

@@ -12,6 +12,7 @@ mod interface;
 mod names;
 mod packed_cards;
 mod rows;
+mod sets;
 mod sheet;
 mod written;
 
@@ -28,6 +29,10 @@ pub use packed_cards::{
     TOO_FEW_CARD_ROWS, read_card, write_packed_card,
 };
 pub use rows::{Buffers, EstimateRows, FrameRows, SegmentRows, frame_positions, windows};
+pub use sets::{
+    CARD_TOO_LONG, NO_SUCH_CARD, PLACE_BYTES, SET_BYTES, SET_FULL, SET_NOT_TRUE, SET_PLACES, SUMMARY_CARDS,
+    SUMMARY_NUMBERS, SUMMARY_WITHOUT_KEY, SetChange, add_card, remove_card,
+};
 pub use sheet::{Sheet, SheetHead};
 pub use written::{TOO_FEW_BYTES, UNWRITABLE, Written};
 

@@ -38,7 +38,7 @@ pub enum Form {
 }
 
 /// Where one kind of file goes.
-enum Target {
+pub enum Target {
     Nowhere,
     Printed,
     File(PathBuf),
@@ -58,17 +58,24 @@ fn is_no_file(word: &OsStr) -> bool {
 }
 
 impl Target {
-    fn read(words: &Words, file: &str, folder: &str) -> Result<Self, Failure> {
-        match (words.word(file), words.word(folder)) {
-            (None, None) => Ok(Self::Nowhere),
-            (Some(word), _) if is_no_file(word) => {
+    /// The one file that an option names.
+    pub fn of_one(words: &Words, file: &str) -> Result<Self, Failure> {
+        match words.word(file) {
+            None => Ok(Self::Nowhere),
+            Some(word) if is_no_file(word) => {
                 Err(bad_usage(format!("{file}: {} is not the name of a file", quoted(word))))
             }
-            (Some(_), Some(_)) => Err(bad_usage(format!("{file} and {folder} do not go together"))),
-            (Some(word), None) if word == STANDARD_OUTPUT => Ok(Self::Printed),
-            (Some(word), None) => Ok(Self::File(word.into())),
-            (None, Some(word)) if Path::new(word).is_dir() => Ok(Self::Folder(word.into())),
-            (None, Some(word)) => Err(refused_about(word, "is no folder")),
+            Some(word) if word == STANDARD_OUTPUT => Ok(Self::Printed),
+            Some(word) => Ok(Self::File(word.into())),
+        }
+    }
+
+    fn read(words: &Words, file: &str, folder: &str) -> Result<Self, Failure> {
+        match (Self::of_one(words, file)?, words.word(folder)) {
+            (one, None) => Ok(one),
+            (Self::Nowhere, Some(word)) if Path::new(word).is_dir() => Ok(Self::Folder(word.into())),
+            (Self::Nowhere, Some(word)) => Err(refused_about(word, "is no folder")),
+            (_, Some(_)) => Err(bad_usage(format!("{file} and {folder} do not go together"))),
         }
     }
 
@@ -85,7 +92,7 @@ impl Target {
         }
     }
 
-    fn is_printed(&self) -> bool {
+    pub fn is_printed(&self) -> bool {
         matches!(self, Self::Printed)
     }
 }
@@ -200,10 +207,14 @@ impl Asked {
                 return Err(bad_usage(format!("{both} would be the same file, {place}")));
             }
         }
-        let read_too = self.files.iter().find(|track| taken.contains_key(&place_of(Path::new(track))));
-        match read_too {
-            Some(track) => Err(bad_usage(format!("{} is read, so it is not written", shown(track)))),
-            None => Ok(()),
-        }
+        not_written(&self.files, |place| taken.contains_key(place))
+    }
+}
+
+/// None of the files that are read is at a place that is written to.
+pub fn not_written(files: &[OsString], is_written: impl Fn(&Path) -> bool) -> Result<(), Failure> {
+    match files.iter().find(|file| is_written(&place_of(Path::new(file)))) {
+        Some(file) => Err(bad_usage(format!("{} is read, so it is not written", shown(file)))),
+        None => Ok(()),
     }
 }

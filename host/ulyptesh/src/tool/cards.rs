@@ -47,7 +47,7 @@ impl Asked {
 }
 
 /// The bytes of a file; of one that is longer than any card, one more than the longest has.
-fn bytes(file: &OsStr) -> io::Result<Vec<u8>> {
+pub fn bytes(file: &OsStr) -> io::Result<Vec<u8>> {
     let from: Box<dyn Read> =
         if file == STANDARD_INPUT { Box::new(io::stdin()) } else { Box::new(File::open(file)?) };
     let mut bytes = vec![];

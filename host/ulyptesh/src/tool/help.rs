@@ -8,6 +8,7 @@ ulyptesh tells the musical key of tracks.
   ulyptesh analyse FILE.. --rate N    key, alternate key and key segments of each track
   ulyptesh key-at FILE SECONDS.. --rate N    the key that sounds at a mix point
   ulyptesh card FILE..                what key cards say
+  ulyptesh totals FOLDER|CARD..       how long each key sounds on all key cards
   ulyptesh key NUMBER x12             the key of a chroma
   ulyptesh key-name NUMBER            the name of a key
   ulyptesh demo                       the library at work on a built-in track
@@ -76,6 +77,22 @@ ulyptesh card FILE.. [--json | --json-lines | --notation WORD]
   --json          an array with an object for each card
   --json-lines    an object a line for each card
   --notation WORD keys in another notation, as for analyse
+";
+
+pub const TOTALS: &str = "\
+ulyptesh totals FOLDER|CARD.. [--json | --json-lines | --notation WORD] [--svg OUT]
+  How long each key sounds on all key cards together: the keys that sound, the largest total first and
+  equal ones by number, with hours, minutes and seconds, the share of all and a bar; then how many cards
+  there are, how many of them have no key, and their time in all. Two equal cards count twice. Cards are
+  counted in sets of 1024; where one is full, another is begun, and the totals are those of all. A card
+  that is refused, or a file that can't be read, is told on standard error, and the others are counted
+  all the same. The numbers are those of card, and 30 for a card of more than 512 bytes.
+  FOLDER          a folder whose files named *.card are counted; those in folders below it are not
+  CARD            a card, whatever its name; - is standard input
+  --json          an array with one object
+  --json-lines    the object in one line
+  --notation WORD keys in another notation, as for analyse
+  --svg OUT       also draws the totals as bars; - is standard output, in place of the text
 ";
 
 pub const KEY: &str = "\

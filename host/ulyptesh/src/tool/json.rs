@@ -1,6 +1,6 @@
-//! Analyses and cards as JSON, each number in as few digits as tell it from all others. docs/JSON.md tells the fields.
+//! Analyses, cards and their totals as JSON, each number in as few digits as tell it from all others. docs/JSON.md tells the fields.
 use std::fmt::Debug;
-use ulyptesh::{Analysis, Card, CardSegment, Key, Refusal, Segment};
+use ulyptesh::{Analysis, Card, CardSegment, Key, Refusal, Segment, SetTotals};
 
 /// Grows where a field changes its meaning or goes.
 const VERSION: u32 = 1;
@@ -75,11 +75,15 @@ fn list(items: impl Iterator<Item = String>, between: &str) -> String {
     format!("[{}]", items.collect::<Vec<_>>().join(between))
 }
 
+/// A key by its name, its number and its code.
+fn key_fields(key: Key) -> [Field; 3] {
+    let key = Some(key);
+    [("key", name(key)), ("key_number", key_number(key)), ("camelot", camelot(key))]
+}
+
 /// The object of a segment; what is said behind its key differs between tracks and cards.
 fn segment_object(start: Field, end: Field, key: Key, behind: &[Field]) -> String {
-    let key = Some(key);
-    let fields = [("key", name(key)), ("key_number", key_number(key)), ("camelot", camelot(key))];
-    object(&[&[start, end], &fields[..], behind].concat(), ", ")
+    object(&[&[start, end], &key_fields(key)[..], behind].concat(), ", ")
 }
 
 fn segment(told: &Segment) -> String {
@@ -159,9 +163,29 @@ pub fn card(file: &str, read: &Result<Card, Refusal>, layout: Layout) -> String 
     object(&[before, keys, behind].concat(), layout.between_fields())
 }
 
+/// The object of a key's total.
+fn key_total(told: &SetTotals, key: Key) -> String {
+    let behind = [("total_ms", told.key_ms(key).to_string()), ("share", or_null(told.share(key), number))];
+    object(&[&key_fields(key)[..], &behind].concat(), ", ")
+}
+
+/// The object of all cards together; so many files are not among them.
+pub fn totals(told: &SetTotals, failed: usize, layout: Layout) -> String {
+    let keys = told.ranked().into_iter().map(|(key, _)| key_total(told, key));
+    let fields = [
+        ("version", VERSION.to_string()),
+        ("cards", told.cards.to_string()),
+        ("without_key", told.without_key.to_string()),
+        ("failed", failed.to_string()),
+        ("total_ms", told.total_ms().to_string()),
+        ("keys", list(keys, layout.between_segments())),
+    ];
+    object(&fields, layout.between_fields())
+}
+
 #[cfg(test)]
 mod tests {
-    use super::super::made::told_with;
+    use super::super::made::{told_with, totals_of};
     use super::*;
 
     /// Whether the fields stand in the object of a track.
@@ -208,5 +232,20 @@ mod tests {
         }
         let refused = card("card", &Card::read(&[]), Layout::OneLine);
         assert!(refused.contains("\"refusal\": 20, \"layout\": null, \"duration_ms\": null, "), "{refused}");
+    }
+
+    #[test]
+    fn totals_have_every_key_once() {
+        let told = totals(&totals_of(&[(18, 3), (1, 1)], 5, 2), 4, Layout::OneLine);
+        let front = "{\"version\": 1, \"cards\": 5, \"without_key\": 2, \"failed\": 4, \"total_ms\": 4, \"keys\": [\
+                     {\"key\": \"F# minor\", \"key_number\": 18, \"camelot\": \"11A\", \"total_ms\": 3, \"share\": 0.75}, \
+                     {\"key\": \"C# major\", \"key_number\": 1, ";
+        assert!(told.starts_with(front), "{told}");
+        for key in Key::ALL {
+            assert_eq!(told.matches(&format!("\"key_number\": {}, ", key.number())).count(), 1, "{key}");
+        }
+        assert!(told.ends_with("\"total_ms\": 0, \"share\": 0.0}]}"), "{told}");
+        let none = totals(&totals_of(&[], 1, 1), 0, Layout::OneLine);
+        assert_eq!(none.matches("\"share\": null}").count(), 24);
     }
 }

@@ -1,5 +1,6 @@
-//! What tests tell of: the analysis of a brief track, changed.
-use ulyptesh::{Analysis, Analyzer};
+//! What tests tell of: the analysis of a brief track, changed, and totals of cards.
+use ulyptesh::calls::{SUMMARY_CARDS, SUMMARY_NUMBERS, SUMMARY_WITHOUT_KEY};
+use ulyptesh::{Analysis, Analyzer, CardSet, SetTotals};
 
 /// Two seconds on A, in one segment and without a window, changed.
 pub fn told_with(change: impl FnOnce(&mut Analysis)) -> Analysis {
@@ -8,4 +9,12 @@ pub fn told_with(change: impl FnOnce(&mut Analysis)) -> Analysis {
     let mut told = analyzer.analyse(&samples).expect("a track that is not refused");
     change(&mut told);
     told
+}
+
+/// Totals with milliseconds for some keys by number, and so many cards, of which so many have no key.
+pub fn totals_of(keys: &[(usize, u64)], cards: u64, without_key: u64) -> SetTotals {
+    let mut summary = [0; SUMMARY_NUMBERS];
+    keys.iter().for_each(|&(key, ms)| summary[key] = ms);
+    (summary[SUMMARY_CARDS], summary[SUMMARY_WITHOUT_KEY]) = (cards, without_key);
+    CardSet::from_parts([], summary).totals()
 }

@@ -1,5 +1,7 @@
 //! The commands of the tool, a module per topic.
 mod asked;
+mod bars;
+mod card_files;
 mod cards;
 mod containers;
 mod demo;
@@ -14,10 +16,12 @@ mod made;
 mod outputs;
 mod picture;
 mod progress;
+mod ranking;
 mod report;
 mod samples;
 mod settings;
 mod text;
+mod totals;
 mod tracks;
 mod words;
 
@@ -40,7 +44,7 @@ struct Command {
 
 const NOTATION: &[Known] = &[with_word("--notation")];
 
-const COMMANDS: [Command; 6] = [
+const COMMANDS: [Command; 7] = [
     Command {
         name: "analyse",
         options: &[&settings::OPTIONS, &asked::OPTIONS],
@@ -54,6 +58,7 @@ const COMMANDS: [Command; 6] = [
         run: tracks::key_at,
     },
     Command { name: "card", options: &[&cards::OPTIONS], help: &[help::CARD], run: cards::run },
+    Command { name: "totals", options: &[&totals::OPTIONS], help: &[help::TOTALS], run: totals::run },
     Command { name: "key", options: &[NOTATION], help: &[help::KEY], run: key_of_words },
     Command { name: "key-name", options: &[NOTATION], help: &[help::KEY_NAME], run: name_of_word },
     Command { name: "demo", options: &[&demo::OPTIONS], help: &[help::DEMO], run: demo::run },
@@ -104,7 +109,8 @@ fn command(name: &OsStr) -> Result<&'static Command, Failure> {
 /// All that the tool says of itself.
 fn whole_help() -> String {
     let of_tracks = [help::INTRODUCTION, help::ANALYSE, help::SETTINGS, help::KEY_AT];
-    [&of_tracks[..], &[help::CARD, help::KEY, help::KEY_NAME, help::DEMO, help::ENDING]].concat().join("\n")
+    let of_others = [help::CARD, help::TOTALS, help::KEY, help::KEY_NAME, help::DEMO, help::ENDING];
+    [&of_tracks[..], &of_others].concat().join("\n")
 }
 
 fn is_help(word: &OsString) -> bool {

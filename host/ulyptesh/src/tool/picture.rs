@@ -9,6 +9,9 @@ use ulyptesh::{Analysis, Analyzer, Key, Mode, Segment};
 pub const LEFT: usize = 60;
 pub const WIDTH: usize = 910;
 
+/// The height of the whole picture.
+const HEIGHT: usize = 420;
+
 /// The segments' blocks.
 pub const BLOCKS: usize = 68;
 pub const BLOCK_HEIGHT: usize = 58;
@@ -56,7 +59,7 @@ fn escaped(text: &str) -> String {
 }
 
 /// The end of a long name, which tells most.
-fn shortened(name: &str) -> String {
+pub fn shortened(name: &str) -> String {
     let letters: Vec<char> = name.chars().collect();
     match letters.len().checked_sub(LONGEST_NAME) {
         None | Some(0) => name.into(),
@@ -75,7 +78,7 @@ fn clock(seconds: f64, duration: f64) -> String {
 }
 
 /// Around the Camelot wheel by hue, light enough for dark text; minor keys are the darker ones.
-fn colour(key: Key) -> String {
+pub fn colour(key: Key) -> String {
     let (saturation, lightness) = if key.mode() == Mode::Minor { (0.55, 0.68) } else { (0.75, 0.80) };
     let hue = f64::from(key.camelot_number() - 1) / 12.0;
     let reach = saturation * f64::min(lightness, 1.0 - lightness);
@@ -210,19 +213,23 @@ impl<'a> Picture<'a> {
     }
 }
 
-/// The picture as SVG: 1,000 by 420, dark on light.
-pub fn svg(picture: &Picture<'_>) -> String {
+/// A picture as SVG: 1,000 wide and so high, dark on light, what is drawn below its title.
+pub fn page(height: usize, title: &str, subtitle: &str, drawn: &str) -> String {
     format!(
-        "<svg xmlns=\"http://www.w3.org/2000/svg\" viewBox=\"0 0 1000 420\" width=\"1000\" height=\"420\" \
+        "<svg xmlns=\"http://www.w3.org/2000/svg\" viewBox=\"0 0 1000 {height}\" width=\"1000\" height=\"{height}\" \
          font-family=\"sans-serif\" font-size=\"12\" fill=\"#222\">\n\
-         <rect width=\"1000\" height=\"420\" fill=\"#fff\"/>\n\
+         <rect width=\"1000\" height=\"{height}\" fill=\"#fff\"/>\n\
          <text x=\"{LEFT}\" y=\"32\" font-size=\"18\" font-weight=\"bold\">{}</text>\n\
-         <text x=\"{LEFT}\" y=\"54\" font-size=\"13\" fill=\"#555\">{}</text>\n{}\
+         <text x=\"{LEFT}\" y=\"54\" font-size=\"13\" fill=\"#555\">{}</text>\n{drawn}\
          </svg>\n",
-        escaped(&picture.title()),
-        escaped(&picture.subtitle()),
-        picture.plot(),
+        escaped(title),
+        escaped(subtitle),
     )
+}
+
+/// The picture of an analysis.
+pub fn svg(picture: &Picture<'_>) -> String {
+    page(HEIGHT, &picture.title(), &picture.subtitle(), &picture.plot())
 }
 
 #[cfg(test)]

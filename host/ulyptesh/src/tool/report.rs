@@ -1,5 +1,5 @@
-//! What is told while tracks are analysed, by any number of threads, or cards are read: answers, failures, and how
-//! far the work is.
+//! What is told while tracks are analysed, by any number of threads, or cards are read or added up: answers, failures,
+//! and how far the work is.
 use super::asked::Form;
 use super::failure::{Failure, refused, shown, tell};
 use super::print;
@@ -18,6 +18,13 @@ struct State {
     failure: Option<Failure>,
     stopped: bool,
     progress: Progress,
+}
+
+impl State {
+    fn stop(&mut self, failure: Failure) {
+        self.failure = Some(failure);
+        self.stopped = true;
+    }
 }
 
 pub struct Report {
@@ -61,6 +68,11 @@ impl Report {
         self.print(&mut state, &[before.as_bytes(), answer, behind.as_bytes()].concat())
     }
 
+    /// A card that goes into an answer about many.
+    pub fn take(&self) {
+        self.state().ended += 1;
+    }
+
     /// A track that is not answered.
     pub fn fail(&self, file: &OsStr, failure: Failure) {
         let mut state = self.state();
@@ -75,6 +87,11 @@ impl Report {
         self.note(&mut self.state(), file, failure);
     }
 
+    /// Work that can't go on, for this reason.
+    pub fn stop(&self, failure: Failure) {
+        self.state().stop(failure);
+    }
+
     /// What ends the answers, behind the last.
     fn closing(&self, state: &State) -> &'static str {
         if self.form == Form::Json && state.ended == self.files && state.answered > 0 { "]\n" } else { "" }
@@ -84,8 +101,7 @@ impl Report {
         state.progress.clear();
         let printed = if state.stopped { Ok(()) } else { print(bytes) };
         if let Err(failure) = printed {
-            state.failure = Some(failure);
-            state.stopped = true;
+            state.stop(failure);
         }
         !state.stopped
     }

@@ -87,6 +87,8 @@ mod tool_outputs;
 mod tool_pictures;
 mod tool_refusals;
 mod tool_runs;
+mod tool_totals;
+mod tool_totals_files;
 #[cfg(oracle)]
 mod tool_tracks;
 #[cfg(oracle)]
@@ -134,7 +136,7 @@ macro_rules! beside_oracle {
     };
 }
 
-const TOPICS: [Topic; 42] = [
+const TOPICS: [Topic; 43] = [
     alone!(numbers),
     alone!(orders),
     alone!(key_names),
@@ -173,6 +175,7 @@ const TOPICS: [Topic; 42] = [
     alone!(tool_forms),
     alone!(tool_json),
     alone!(tool_cards),
+    alone!(tool_totals),
     alone!(tool_libraries),
     alone!(tool_memory),
     alone!(tool_pictures),

@@ -12,7 +12,7 @@ use ulyptesh::{Key, Notation};
 type Case = (&'static str, i32, &'static str);
 
 /// The track is a tone on A; silence has no key.
-const CASES: [Case; 23] = [
+const CASES: [Case; 28] = [
     ("analyse tone --rate 8000 --key-only", 0, "A minor\n"),
     ("analyse tone --rate 8000 --key-only --notation sharps", 0, "A minor\n"),
     ("analyse tone --rate 8000 --key-only --notation camelot", 0, "8A\n"),
@@ -36,7 +36,22 @@ const CASES: [Case; 23] = [
     ("card needless", 1, "refused 23\n"),
     ("analyse day --rate 1 --frame-size 32", 0, "day: no key in 86400.00 s, 0 loud frames\n"),
     ("card o silent p", 1, "o:\nA minor\n0 180000 A minor\nsilent:\nrefused 21\np:\nno key\n"),
+    ("totals p", 0, "1 card, 1 without a key, 0:00:00 in all\n"),
+    ("totals o p --notation flats", 0, O_AND_P),
+    ("totals --notation=camelot -- o", 0, O_ALONE),
+    ("totals o silent p --notation sharps", 1, O_AND_P),
+    ("totals silent", 1, ""),
 ];
+
+const O_AND_P: &str = "\
+A minor  0:03:00  100.0 %  ########################################
+2 cards, 1 without a key, 0:03:00 in all
+";
+
+const O_ALONE: &str = "\
+8A  0:03:00  100.0 %  ########################################
+1 card, 0 without a key, 0:03:00 in all
+";
 
 const KEY_HELP: &str = "\
 ulyptesh key NUMBER x12 [--notation WORD]
@@ -156,7 +171,7 @@ fn said_of_windows(folder: &Folder, words: &str) -> Vec<String> {
 fn help(folder: &Folder) -> [bool; 4] {
     let one = |words: &[&str]| printed(folder, words).text;
     let whole = one(&["--help"]);
-    let commands = ["analyse", "key-at", "card", "key", "key-name", "demo"];
+    let commands = ["analyse", "key-at", "card", "totals", "key", "key-name", "demo"];
     let version = format!("ulyptesh {}, interface {ABI}\n", env!("CARGO_PKG_VERSION"));
     [
         whole == one(&["help"]) && whole == one(&["-h"]),

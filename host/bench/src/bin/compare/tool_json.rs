@@ -9,6 +9,7 @@ use std::path::Path;
 /// The sections on what an array holds.
 const TRACK: &str = "A track";
 const CARD: &str = "A card";
+const TOTALS: &str = "Totals";
 
 /// A field's name and its kind, as a row of the page's tables has them.
 type Field = (String, String);
@@ -36,6 +37,7 @@ fn is_of(value: &Json, kind: &str, page: &str) -> bool {
             ("list of numbers", Json::List(items)) => items.iter().all(|item| is_of(item, "number", page)),
             ("list of segments", Json::List(items)) => all_follow(items, "A segment", page),
             ("list of card segments", Json::List(items)) => all_follow(items, "A card segment", page),
+            ("list of key totals", Json::List(items)) => all_follow(items, "A key total", page),
             _ => false,
         },
     }
@@ -94,7 +96,11 @@ const fn of_cards(words: &'static str, objects: usize, nulls: &'static [&'static
     Run { words, title: CARD, objects, nulls }
 }
 
-const RUNS: [Run; 12] = [
+const fn of_totals(words: &'static str) -> Run {
+    Run { words, title: TOTALS, objects: 1, nulls: &[] }
+}
+
+const RUNS: [Run; 16] = [
     of_tracks("analyse two --rate 44100 --json", 1, &[]),
     of_tracks("analyse one --rate 44100 --json", 1, WITHOUT_ALTERNATE),
     of_tracks("analyse silent --rate 44100 --json-lines", 1, WITHOUT_KEY),
@@ -107,6 +113,10 @@ const RUNS: [Run; 12] = [
     of_cards("card silent.card --json-lines", 1, CARD_WITHOUT_KEY),
     of_cards("card missing silent.card silent.card --json", 2, CARD_WITHOUT_KEY),
     of_cards("card two silent one --json", 3, NO_CARD),
+    of_totals("totals two.card one.card silent.card --json"),
+    of_totals("totals . missing --json"),
+    of_totals("totals silent.card --json"),
+    of_totals("totals two.card two --json-lines"),
 ];
 
 /// The demo's track in two keys, its front in one, and silence; a card of each; and clicks.
@@ -168,14 +178,14 @@ fn windows(folder: &Folder, run: usize) -> Vec<Option<Json>> {
 /// changes at 57 s.
 const WINDOWS: [(usize, &[&str]); 4] = [(0, &["9", "3"]), (1, &["2"]), (2, &[]), (4, &["2"])];
 
-/// The page's own examples follow it too: whether those of tracks do, and those of cards.
+/// The page's own examples follow it too: whether those of tracks do, those of cards, and those of totals.
 fn examples(page: &str) -> Vec<bool> {
     let blocks = page.split("```json\n").skip(1).filter_map(|behind| behind.split("```").next());
     let follows = |(block, title): (&str, &str)| {
         let told = Json::read(block);
         told.as_ref().and_then(Json::list).is_some_and(|told| all_follow(told, title, page))
     };
-    blocks.zip([TRACK, CARD]).map(follows).collect()
+    blocks.zip([TRACK, CARD, TOTALS]).map(follows).collect()
 }
 
 pub fn compare(groups: &mut Groups) {
@@ -193,5 +203,5 @@ pub fn compare(groups: &mut Groups) {
         |nth: usize| WINDOWS[nth].1.iter().map(|&count| Some(Json::Number(count.into()))).collect::<Vec<_>>();
     groups.group("windows behind segments in the tool's JSON", 0..WINDOWS.len(), said, windows);
     let examples = |_| examples(&page);
-    groups.group("the examples of the page on JSON", [0u32].into_iter(), examples, |_| vec![true; 2]);
+    groups.group("the examples of the page on JSON", [0u32].into_iter(), examples, |_| vec![true; 3]);
 }

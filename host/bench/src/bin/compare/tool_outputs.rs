@@ -40,7 +40,7 @@ struct Writing {
 compared_as_shown!(Full, Writing);
 compared_exactly!(Ended);
 
-const FULL_RUNS: [Full; 11] = [
+const FULL_RUNS: [Full; 14] = [
     Full { words: "analyse good --rate 8000 --card new --svg newer", stdout: true, stderr: false },
     Full { words: "analyse good --rate 8000 --card old", stdout: true, stderr: true },
     Full { words: "analyse good silent --rate 8000 --cards . --json", stdout: true, stderr: false },
@@ -52,9 +52,12 @@ const FULL_RUNS: [Full; 11] = [
     Full { words: "card o", stdout: true, stderr: false },
     Full { words: "card o old missing --json", stdout: true, stderr: true },
     Full { words: "card old", stdout: false, stderr: true },
+    Full { words: "totals o --svg new", stdout: true, stderr: false },
+    Full { words: "totals o old missing --json --svg new", stdout: true, stderr: true },
+    Full { words: "totals old", stdout: false, stderr: true },
 ];
 
-const WRITINGS: [Writing; 7] = [
+const WRITINGS: [Writing; 9] = [
     Writing {
         words: "analyse good --rate 8000 --card new.card --svg new.svg",
         cards: &["new.card"],
@@ -77,6 +80,8 @@ const WRITINGS: [Writing; 7] = [
         new: 0,
     },
     Writing { words: "demo --svg new.svg --track new.f32", cards: &[], pictures: &["new.svg"], new: 2 },
+    Writing { words: "totals o --svg new.svg", cards: &[], pictures: &["new.svg"], new: 1 },
+    Writing { words: "totals o o --svg link --json", cards: &[], pictures: &["old"], new: 0 },
 ];
 
 /// A track, a silent one, a card, a file that is there before with a link to it, a link to nothing, and a folder.

@@ -1,4 +1,5 @@
 //! Bad words and bad files: the tool says what is wrong, prints nothing else and writes nothing.
+use crate::card_reads::ROW_O;
 use crate::groups::{Groups, compared_as_shown, compared_exactly};
 use crate::tool_runs::{Folder, text};
 
@@ -31,7 +32,7 @@ const fn refused(words: &'static str, says: &'static str) -> Case {
 }
 
 /// Commands and options.
-const WORDS: [Case; 38] = [
+const WORDS: [Case; 46] = [
     bad_usage("", "no command"),
     bad_usage("analyze good --rate 8000", "'analyze' is not a command"),
     bad_usage("help analyze", "'analyze' is not a command"),
@@ -70,6 +71,14 @@ const WORDS: [Case; 38] = [
     bad_usage("card good --notation roman", "'roman' is not a notation"),
     bad_usage("card good --notation flats --json", "--notation goes with"),
     bad_usage("card - good -", "once"),
+    bad_usage("totals", "no file"),
+    bad_usage("totals good --rate 8000", "'--rate' is not an option"),
+    bad_usage("totals good --svgs .", "'--svgs' is not an option"),
+    bad_usage("totals good --json --json-lines", "one can be had"),
+    bad_usage("totals good --json --svg -", "one can be had"),
+    bad_usage("totals good --notation roman", "'roman' is not a notation"),
+    bad_usage("totals good --notation flats --svg -", "--notation goes with"),
+    bad_usage("totals - good -", "once"),
 ];
 
 /// Settings: each option with a word that it does not take, and what the library does not take.
@@ -113,7 +122,7 @@ const SETTINGS: [Case; 27] = [
 ];
 
 /// Files that are read or written.
-const FILES: [Case; 46] = [
+const FILES: [Case; 57] = [
     bad_usage("analyse good --rate 8000 --card", "--card needs"),
     bad_usage("analyse good --rate 8000 --svg", "--svg needs"),
     bad_usage("analyse good --rate 8000 --card=", "'' is not the name of a file"),
@@ -163,6 +172,17 @@ const FILES: [Case; 46] = [
     refused("card missing --json", "missing: "),
     refused("card missing circle", "2 of 2 failed: missing, circle"),
     refused("card .", ".: "),
+    bad_usage("totals o --svg=", "'' is not the name of a file"),
+    bad_usage("totals o --svg ./o", "is read"),
+    bad_usage("totals . --svg good.card", "./good.card is read"),
+    refused("totals o --svg nowhere/new", "nowhere/new: "),
+    refused("totals o --svg .", ".: is a folder"),
+    refused("totals o --json --svg /dev/full", "/dev/full: "),
+    refused("totals good --svg new", "good: "),
+    refused("totals missing --svg new", "missing: "),
+    refused("totals bare --svg new", "bare: there are no cards"),
+    refused("totals bare missing", "2 of 2 failed: bare, missing"),
+    refused("totals . circle", "2 of 2 failed: ./good.card, circle"),
 ];
 
 /// Files of other kinds, by their first bytes.
@@ -193,8 +213,8 @@ fn kinds() -> impl Iterator<Item = Case> {
     LINES.into_iter()
 }
 
-/// Files that are good, odd, too loud, silent, too long at 1 Hz, empty or of another kind; one that is there before, and
-/// links to nothing.
+/// Files that are good, odd, too loud, silent, too long at 1 Hz, empty or of another kind; a card, a folder without one,
+/// a file that is there before, and links to nothing.
 fn filled() -> Folder {
     let folder = Folder::new("tool-refusals");
     let tone: Vec<f32> = (0..16_000).map(|place| (place as f32 * 0.2).sin()).collect();
@@ -205,6 +225,8 @@ fn filled() -> Folder {
     folder.put_samples("spoilt", &[1e25; 16_000]);
     folder.put_samples("long", &[0.0; 86_401]);
     folder.put("odd", &[0; 16_001]);
+    folder.put("o", &ROW_O);
+    folder.make_folder("bare");
     folder.put("old", b"old");
     folder.put("empty", b"");
     folder.put_link("dangling", "behind");
