@@ -13,7 +13,7 @@ use bench::inputs::dice::Dice;
 use std::cmp::Reverse;
 
 /// Streams of the seed from here on.
-const STREAM: u64 = 310_000;
+const STREAM: u64 = 480_000;
 
 /// A set takes no longer cards.
 const LONGEST: usize = 512;
