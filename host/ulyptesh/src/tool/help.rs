@@ -92,7 +92,8 @@ ulyptesh totals FOLDER|CARD.. [--json | --json-lines | --notation WORD] [--svg O
   --json          an array with one object
   --json-lines    the object in one line
   --notation WORD keys in another notation, as for analyse
-  --svg OUT       also draws the totals as bars; - is standard output, in place of the text
+  --svg OUT       also draws the totals as bars, of the cards that were counted; - is standard output,
+                  in place of the text
 ";
 
 pub const KEY: &str = "\

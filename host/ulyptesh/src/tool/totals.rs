@@ -102,11 +102,11 @@ impl Asked {
 fn gathered(found: Vec<Found>, report: &Report) -> SetTotals {
     let mut gathered = Gathered::default();
     for one in found {
-        let failed = one.and_then(|file| {
+        let added = one.and_then(|file| {
             report.begin(&file);
             gathered.add_file(&file).map_err(|failure| (file, failure))
         });
-        match failed {
+        match added {
             Ok(()) => report.take(),
             Err((name, failure)) => report.fail(&name, failure),
         }
