@@ -16,7 +16,7 @@ use std::fmt;
 /// where that is another.
 ///
 /// ```
-/// use ulyptesh::{Card, CardSet, Key, Refusal};
+/// use ulyptesh::{Card, CardSet, Refusal};
 /// # fn main() -> Result<(), Refusal> {
 /// let bytes = [0x1A, 0xD7, 0x00, 0x03, 0xE8, 0x00, 0x81, 0x5F, 0x90, 0x55, 0xF4];
 /// let (card, no_key) = (Card::read(&bytes)?, [0x1C, 0x63, 0x00, 0x00, 0x00, 0x00, 0x00]);
