@@ -19,6 +19,7 @@ use std::sync::Arc;
 use std::thread;
 use ulyptesh::calls::{self, KEYS, LONGEST_NAME, Sheet, analyse, frames, write_card, write_key_name};
 use ulyptesh::calls::{CardRead, PackedFields, read_card, write_packed_card};
+use ulyptesh::calls::{SET_BYTES, SUMMARY_NUMBERS, add_card, remove_card};
 
 /// Streams of the seed from here on.
 const STREAM: u64 = 96_000;
@@ -26,6 +27,9 @@ const STREAM: u64 = 96_000;
 /// So many chromas of each kind, and so many analyses for each broken rule of a card.
 const OF_EACH_KIND: usize = 100;
 const BROKEN: usize = 20;
+
+/// Most segments of the cards for sets, a few more than fit a place.
+const SET_SEGMENTS: usize = 120;
 
 /// What the header says that an analysis may take of the stack.
 const STACK: usize = 96 << 10;
@@ -171,6 +175,18 @@ fn by_reading(told: Told) -> u64 {
     })
 }
 
+/// A card added, taken out and not there any more; and a set a byte too short.
+fn by_set(told: Told) -> u64 {
+    let card = packed(&told).expect("an analysis that a card holds");
+    let (mut set, mut summary) = (vec![0; SET_BYTES], [0; SUMMARY_NUMBERS]);
+    requests(|| {
+        add_card(&mut set, &mut summary, &card);
+        remove_card(&mut set, &mut summary, &card);
+        remove_card(&mut set, &mut summary, &card);
+        add_card(&mut set[1..], &mut summary, &card)
+    })
+}
+
 /// Chromas of every kind, the front of each, and none.
 fn chromas(seed: u64) -> impl Iterator<Item = Vec<f32>> {
     let whole = plain_kinds(seed).flat_map(|kind| kind.chromas.take(OF_EACH_KIND));
@@ -209,4 +225,6 @@ pub fn compare(groups: &mut Groups) {
     groups.group("memory asked for by cards", cards(seed), by_card, |_| 0);
     let name = "memory asked for by reading cards and writing them again";
     groups.group(name, all_cards(seed), by_reading, |_| 0);
+    let fitting_and_longer = all_writable(seed, STREAM, kinds(SET_SEGMENTS));
+    groups.group("memory asked for by sets", fitting_and_longer, by_set, |_| 0);
 }

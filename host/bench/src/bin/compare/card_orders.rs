@@ -58,7 +58,7 @@ fn number_of(bytes: usize, faults: [Option<Fault>; 4], own: Option<u32>) -> Opti
 }
 
 /// A card that is refused with this number or with none, and with each combination of other faults.
-fn with_other_faults((said, layout, own): (Meaning, Layout, Option<u32>)) -> Vec<Reading> {
+pub fn with_other_faults((said, layout, own): (Meaning, Layout, Option<u32>)) -> Vec<Reading> {
     let count = said.segments.len();
     let whole = Reading::new(said.joined(layout), count, [0; 4]);
     let fillers: &[Fault] = if layout.bits_of(count).is_multiple_of(8) { &[] } else { &FILLERS };

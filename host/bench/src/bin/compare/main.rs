@@ -64,6 +64,17 @@ mod segment_lists;
 mod segment_tracks;
 #[cfg(oracle)]
 mod segments;
+mod set_calls;
+mod set_cards;
+mod set_edges;
+mod set_histories;
+mod set_model;
+mod set_orders;
+mod set_places;
+mod set_runs;
+mod set_summaries;
+mod set_unreadable;
+mod sets;
 #[cfg(oracle)]
 mod shapeless_tracks;
 #[cfg(oracle)]
@@ -136,7 +147,7 @@ macro_rules! beside_oracle {
     };
 }
 
-const TOPICS: [Topic; 43] = [
+const TOPICS: [Topic; 44] = [
     alone!(numbers),
     alone!(orders),
     alone!(key_names),
@@ -151,6 +162,7 @@ const TOPICS: [Topic; 43] = [
     alone!(packed_cards),
     alone!(lister),
     alone!(stored_cards),
+    alone!(sets),
     alone!(track_ends),
     alone!(sheets),
     beside_oracle!(magnitudes),

@@ -221,7 +221,7 @@ fn compare_refused(groups: &mut Groups) {
 }
 
 /// Takes a choice of a list from a number, and what is left of the number for the next.
-fn chosen<A: Copy>(nth: &mut usize, choices: &[A]) -> A {
+pub fn chosen<A: Copy>(nth: &mut usize, choices: &[A]) -> A {
     let choice = choices[*nth % choices.len()];
     *nth /= choices.len();
     choice

@@ -12,6 +12,9 @@ const ROUNDS: usize = 7;
 /// So many milliseconds of a segment.
 const LENGTH: u32 = 14_000;
 
+/// The thousandths of confidence in a card's key.
+const CONFIDENCE: u32 = 500;
+
 /// Rows for segments.
 struct Rows {
     starts: Vec<u32>,
@@ -36,13 +39,14 @@ impl Rows {
         read_card(card, &mut self.starts, &mut self.ends, &mut self.keys, &mut self.confidences)
     }
 
-    fn write(&self, bytes: &mut [u8]) -> usize {
+    /// With so many thousandths of confidence in the key.
+    fn write(&self, confidence: u32, bytes: &mut [u8]) -> usize {
         let fields = PackedFields {
             key: 0,
             dsp_key: 0,
             alternate: 1,
             coverage: 250,
-            confidence: 500,
+            confidence,
             starts: &self.starts,
             ends: &self.ends,
             keys: &self.keys,
@@ -50,6 +54,14 @@ impl Rows {
         };
         write_packed_card(&fields, bytes).length
     }
+}
+
+/// A card of so many segments, with so many thousandths of confidence.
+pub fn card(count: usize, confidence: u32) -> Vec<u8> {
+    let mut card = vec![0; LONGEST_CARD];
+    let length = Rows::new(count).write(confidence, &mut card);
+    card.truncate(length);
+    card
 }
 
 /// The same segments as an analysis tells them: times in seconds, parts of one.
@@ -93,12 +105,11 @@ fn nanoseconds(turns: usize, mut turn: impl FnMut() -> u64) -> f64 {
 }
 
 fn print_row(count: usize, turns: usize) {
-    let (mut rows, mut card) = (Rows::new(count), vec![0; LONGEST_CARD]);
-    let length = rows.write(&mut card);
-    card.truncate(length);
+    let (mut rows, mut card) = (Rows::new(count), card(count, CONFIDENCE));
+    let length = card.len();
     assert_eq!(rows.read(&card).segments, count as u64);
     let reading = nanoseconds(turns, || rows.read(&card).segments);
-    let again = nanoseconds(turns, || rows.write(&mut card) as u64);
+    let again = nanoseconds(turns, || rows.write(CONFIDENCE, &mut card) as u64);
     let analysed = Analysed::new(&rows);
     assert_eq!(analysed.write(&mut card), length);
     let first = nanoseconds(turns, || analysed.write(&mut card) as u64);

@@ -17,11 +17,13 @@ mod long_lists;
 mod medians;
 #[cfg(oracle)]
 mod memory;
+mod plain_sets;
 mod rounds;
 #[cfg(oracle)]
 mod scores;
 #[cfg(oracle)]
 mod segments;
+mod sets;
 #[cfg(oracle)]
 mod tracks;
 
@@ -57,6 +59,7 @@ const TOPICS: &[Topic] = &[
     #[cfg(oracle)]
     ("growth", growth::print_rows),
     ("cards", cards::print_rows),
+    ("sets", sets::print_rows),
 ];
 
 /// The topic of this name alone.
