@@ -41,11 +41,15 @@ struct Card {
 #[derive(Debug, Clone)]
 pub struct Set(Vec<Option<Card>>);
 
+/// What a card says that reads and fits a place, or the number of the first refusal that applies.
+pub fn fitting(bytes: &[u8]) -> Result<Meaning, u32> {
+    let said = Meaning::read(bytes)?;
+    if bytes.len() > PLACE { Err(CARD_TOO_LONG) } else { Ok(said) }
+}
+
 impl Card {
-    /// A card that reads and fits a place, or the number of the first refusal that applies.
     fn read(bytes: &[u8]) -> Result<Self, u32> {
-        let said = Meaning::read(bytes)?;
-        if bytes.len() > PLACE { Err(CARD_TOO_LONG) } else { Ok(Self { bytes: bytes.to_vec(), said }) }
+        fitting(bytes).map(|said| Self { bytes: bytes.to_vec(), said })
     }
 }
 

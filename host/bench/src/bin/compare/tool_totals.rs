@@ -1,22 +1,21 @@
 //! The tool's `totals`: text, JSON and picture beside the sums of what the cards say by the request's words.
 use crate::analyses::kinds;
 use crate::card_breaches::good;
-use crate::card_model::{MISSING, Meaning};
+use crate::card_model::Meaning;
 use crate::card_reads::{ROW_O, ROW_P};
 use crate::groups::{Groups, compared_as_shown};
 use crate::json::Json;
 use crate::key_names::{CAMELOT, name};
+use crate::set_model::{PLACE, fitting, summary_of};
 use crate::tool_json::objects;
 use crate::tool_runs::{Folder, text};
 use crate::tool_totals_files;
 use bench::inputs::dice::Dice;
+use std::array::from_fn;
 use std::cmp::Reverse;
 
 /// Streams of the seed from here on.
 const STREAM: u64 = 480_000;
-
-/// A set takes no longer cards.
-const LONGEST: usize = 512;
 
 /// So many folders are made, of up to so many cards.
 const FOLDERS: usize = 24;
@@ -35,7 +34,7 @@ pub struct Totals {
 
 /// Why a file is not counted, by number; none where it is.
 pub fn refusal(bytes: &[u8]) -> Option<u32> {
-    Meaning::read(bytes).err().or((bytes.len() > LONGEST).then_some(30))
+    fitting(bytes).err()
 }
 
 /// Hours, minutes and seconds, to the nearest second.
@@ -47,16 +46,10 @@ fn time(milliseconds: u64) -> String {
 impl Totals {
     /// Of all files that are cards.
     pub fn of(files: &[Vec<u8>]) -> Self {
-        let mut told = Self { keys: [0; 24], cards: 0, without_key: 0 };
-        let counted = files.iter().filter(|bytes| refusal(bytes).is_none());
-        for said in counted.filter_map(|bytes| Meaning::read(bytes).ok()) {
-            for (start, segment) in said.starts().zip(&said.segments) {
-                told.keys[segment.key as usize] += segment.end - start;
-            }
-            told.cards += 1;
-            told.without_key += u64::from(said.key == MISSING);
-        }
-        told
+        let said: Vec<Meaning> = files.iter().filter_map(|bytes| fitting(bytes).ok()).collect();
+        let summary = summary_of(said.iter());
+        let [cards, without_key] = [24, 25].map(|at| summary[at]);
+        Self { keys: from_fn(|key| summary[key]), cards, without_key }
     }
 
     fn all(&self) -> u64 {
@@ -227,7 +220,7 @@ fn as_json(files: &[Vec<u8>], form: &str) -> (bool, Vec<Json>) {
 
 /// Cards of every number of segments that a set takes, in either layout.
 pub fn pool(seed: u64) -> Vec<Vec<u8>> {
-    let fitting = kinds(LONGEST).into_iter().filter(|(layout, count)| layout.length_of(*count) <= LONGEST);
+    let fitting = kinds(PLACE).into_iter().filter(|(layout, count)| layout.length_of(*count) <= PLACE);
     fitting.zip(STREAM..).map(|(kind, stream)| good(seed, stream, kind).joined(kind.0)).collect()
 }
 
