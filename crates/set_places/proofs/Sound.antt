@@ -53,8 +53,10 @@ module _ (place : List ℕ) (size : length place ≡ placeSize) where
       by-tests false false behind z r b t = let z : _≡_ {A = ℕ} 0 1 = cc in absurd (omega arith)
 
 pub sound-places : SoundPlaces
-sound-places place size =
-    (sound-holds place size, λ held. elim held [
-      | inl free ↦ ap spoilt free ∙ free-sound
-      | inr (card, h) ↦ held-sound place card h
-    ])
+sound-places place size = (
+  sound-holds place size,
+  λ held. elim held [
+    | inl free ↦ ap spoilt free ∙ free-sound
+    | inr (card, h) ↦ held-sound place card h
+  ],
+)
