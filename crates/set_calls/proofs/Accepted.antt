@@ -22,7 +22,7 @@ use Rattle.laws.specs.Every.{sameNumbers}
 use Rattle.set_places.specs.Places.{places, placeSize, placeAt, readWhole, isRead, lowestWith, placed}
 use Rattle.laws.proofs.Same.{same-is}
 use Rattle.set_totals.specs.Summary.{summaryOf, numbersOf}
-use Rattle.set_calls.specs.Sets.{CardSet, SetOutcome, untrue, refusalOf, answer, setOutcome, unchanged, changed, setTable, setCall}
+use Rattle.set_calls.specs.Sets.{CardSet, SetOutcome, untrue, refusalOf, setChange, setOutcome, unchanged, changed, setTable, setCall}
 use Rattle.set_calls.specs.inside.Accepted.{acceptTable, acceptedAs}
 use Rattle.set_calls.proofs.Truth.{TrueSet, true-set, of-true}
 
@@ -142,6 +142,6 @@ module _ (content set : List ℕ) {p : ℕ} (e : p ≡ lowestWith content set) (
 
 -- what was left is the set with that place changed, and its own numbers
 pub left-is : (s : CardSet) (to : List ℕ) {p place : ℕ} {bytes numbers : List ℕ} → p ≡ place → bytes ≡ placed p to (s .bytes) → numbers ≡ numbersOf (summaryOf (placed p to (s .bytes))) →
-    setOutcome (answer 0 p) (record { bytes = bytes; numbers = numbers }) ≡ changed place to s
+    setOutcome (setChange 0 p) (record { bytes = bytes; numbers = numbers }) ≡ changed place to s
 left-is s to {p} e b n =
-    ap₂ (λ (xs ys : List ℕ). setOutcome (answer 0 p) (record { bytes = xs; numbers = ys })) b n ∙ ap (λ (q : ℕ). changed q to s) e
+    ap₂ (λ (xs ys : List ℕ). setOutcome (setChange 0 p) (record { bytes = xs; numbers = ys })) b n ∙ ap (λ (q : ℕ). changed q to s) e

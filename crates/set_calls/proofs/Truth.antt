@@ -1,5 +1,5 @@
 -- A lent set that is true: what each of the three tests says.
-use mathlib.Core.Path.{_≡_, refl, sym, ap, subst, _∙_}
+use mathlib.Core.Path.{_≡_, sym, ap, subst, _∙_}
 use mathlib.Core.Bool.{Bool, true, false, not, _||_}
 use mathlib.Core.List.{List, [], _∷_}
 use Prim.Native.Nat.{ℕ}
@@ -10,6 +10,7 @@ use Rattle.laws.proofs.Table.{none-of}
 use Rattle.laws.specs.Every.{sameNumbers}
 use Rattle.set_places.specs.Places.{setSize, anySpoilt}
 use Rattle.laws.proofs.Same.{same-is, same-own}
+use Rattle.set_places.proofs.Zeros.{passed}
 use Rattle.set_totals.specs.Summary.{summaryOf, numbersOf}
 use Rattle.set_calls.specs.Sets.{CardSet, untrue}
 
@@ -51,8 +52,5 @@ module _ (s : CardSet) where
       all sized (anySpoilt (s .bytes)) differs (ap not (eq-eqb (length (s .bytes)) setSize (t .whole))) (t .sound)
       (ap not (ap (λ (xs : List ℕ). sameNumbers (s .numbers) xs) (sym (t .summed)) ∙ passed (sameNumbers (s .numbers) (s .numbers)) (same-own (s .numbers))))
     where
-      passed : (b : Bool) → T b → b ≡ true
-      passed true t = refl
-
       all : (a b c : Bool) → a ≡ false → b ≡ false → c ≡ false → (a || b) || c ≡ false
       all a b c d e f = rw (d, e, f)

@@ -40,21 +40,21 @@ refusalOf (refused number) = number
 refusalOf (says m) = 0
 
 -- the call's answer: the refusal's number, or 0, and which place was changed
-abbrev pub answer : ℕ → ℕ → SetChange
-answer refusal place = record { refusal = refusal; place = place }
+abbrev pub setChange : ℕ → ℕ → SetChange
+setChange refusal place = record { refusal = refusal; place = place }
 
 -- what the call answers, and what it leaves in the lent set
 pub record SetOutcome : Type 0 where
-  pub answered : SetChange
+  pub answer : SetChange
   pub left : CardSet
 
 -- both together
 abbrev pub setOutcome : SetChange → CardSet → SetOutcome
-setOutcome answered left = record { answered = answered; left = left }
+setOutcome answer left = record { answer = answer; left = left }
 
 -- a refusal changes nothing
 abbrev pub unchanged : ℕ → CardSet → SetOutcome
-unchanged refusal s = setOutcome (answer refusal 0) s
+unchanged refusal s = setOutcome (setChange refusal 0) s
 
 -- the table from the top; last, `missing` where no place has what is looked for
 abbrev pub setTable : ℕ → ℕ → List ℕ → CardSet → List (Check SetOutcome)
@@ -67,7 +67,7 @@ setTable missing place card s =
 
 -- where no row applies: the place has this content, and the numbers are those of the set as it then is
 abbrev pub changed : ℕ → List ℕ → CardSet → SetOutcome
-changed place content s = setOutcome (answer 0 place) (summedSet (placed place content (s .bytes)))
+changed place content s = setOutcome (setChange 0 place) (summedSet (placed place content (s .bytes)))
 
 -- the lowest place with one content gets another
 unfoldable pub setCall : ℕ → List ℕ → List ℕ → List ℕ → CardSet → SetOutcome

@@ -1,7 +1,7 @@
 // The calls "add a card to a set" and "take a card out", whole.
 ghost use mathlib.Core.Path.{_≡_};
 ghost use Rattle.laws.specs.Every.{sameNumbers};
-ghost use Rattle.set_calls.specs.Sets.{lentSet, untrue, answer, setOutcome, addCall, removeCall};
+ghost use Rattle.set_calls.specs.Sets.{lentSet, untrue, setChange, setOutcome, addCall, removeCall};
 ghost use Rattle.set_calls.specs.inside.Accepted.{acceptedAs};
 use card::layout::MOST_SEGMENTS;
 use card_reader::judge::CardJudged;
@@ -24,7 +24,7 @@ pub struct SetChange {
 
 // A call that changes nothing.
 fn unchanged(refusal: u32) -> SetChange
-    ensures { λ r. ⌜ r ≡ answer refusal 0 ⌝ }
+    ensures { λ r. ⌜ r ≡ setChange refusal 0 ⌝ }
 {
     SetChange { refusal, place: 0 }
 }

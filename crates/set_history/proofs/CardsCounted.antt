@@ -24,7 +24,7 @@ use Rattle.set_totals.proofs.Readings.{zeros-unread}
 use Rattle.set_calls.specs.Sets.{CardSet, SetOutcome}
 use Rattle.set_calls.proofs.Accepted.{Accepted}
 use Rattle.set_calls.proofs.Truth.{TrueSet}
-use Rattle.set_history.specs.Calls.{SetCall, adding, removing, outcomeOf, isDone, afterAll, doneOf}
+use Rattle.set_history.specs.Calls.{SetCall, adding, removing, setOutcomeOf, isDone, afterAll, doneOf}
 use Rattle.set_history.specs.CardsCounted.{copies, puts, takes, CardsCounted}
 use Rattle.set_history.proofs.Ways.{Way, refused, done, way, differ}
 
@@ -93,7 +93,7 @@ module _ (card : List ℕ) (l : Layout) (fits : length card ≤ placeSize) (read
       whole true = refl
       whole false = refl
 
-  counted : (c : SetCall) (s : CardSet) → Counts s (outcomeOf c s) (puts card c) (takes card c)
+  counted : (c : SetCall) (s : CardSet) → Counts s (setOutcomeOf c s) (puts card c) (takes card c)
   counted (adding other) s =
       counts (puts card (adding other)) false (way 31 (inPlace []) (inPlace other) other s refl) (λ k a. (length-in-place other (a .fits), same-card other k (a .fits) (a .readable), free-other))
   counted (removing other) s =
@@ -104,7 +104,7 @@ module _ (card : List ℕ) (l : Layout) (fits : length card ≤ placeSize) (read
   all-counted [] s = refl
   all-counted (c ∷ cs) s =
       let first = counted c s in
-      let rest = all-counted cs (outcomeOf c s .left) in
+      let rest = all-counted cs (setOutcomeOf c s .left) in
       omega (arith, first, rest)
 
 pub cards-counted : CardsCounted

@@ -25,7 +25,7 @@ use Rattle.set_totals.proofs.Exchanged.{free-gives}
 use Rattle.set_calls.specs.Sets.{CardSet, SetOutcome, summedSet}
 use Rattle.set_calls.proofs.Accepted.{Accepted}
 use Rattle.set_calls.proofs.Truth.{TrueSet, true-set, of-true}
-use Rattle.set_history.specs.Calls.{SetCall, adding, removing, outcomeOf, isDone, afterAll}
+use Rattle.set_history.specs.Calls.{SetCall, adding, removing, setOutcomeOf, isDone, afterAll}
 use Rattle.set_history.specs.TotalsStay.{Summed, emptySet, TotalsStay, TotalsFit}
 use Rattle.set_history.proofs.Ways.{Way, refused, done, way, differ}
 
@@ -83,22 +83,22 @@ add-fits card s l a = (length-in-place card (a .fits), sound-in-place card l (a 
 remove-fits : (card : List ℕ) (s : CardSet) → Fit (inPlace []) card s
 remove-fits card s l a = (length-in-place [] (omega arith), free-sound)
 
-pub call-true : (c : SetCall) (s : CardSet) → TrueSet s → TrueSet (outcomeOf c s .left)
+pub call-true : (c : SetCall) (s : CardSet) → TrueSet s → TrueSet (setOutcomeOf c s .left)
 call-true (adding card) s t = left-true (way 31 (inPlace []) (inPlace card) card s refl) (add-fits card s) t
 call-true (removing card) s t = left-true (way 32 (inPlace card) (inPlace []) card s refl) (remove-fits card s) t
 
-call-done : (c : SetCall) (s : CardSet) → isDone (outcomeOf c s) ≡ true → TrueSet (outcomeOf c s .left)
+call-done : (c : SetCall) (s : CardSet) → isDone (setOutcomeOf c s) ≡ true → TrueSet (setOutcomeOf c s .left)
 call-done (adding card) s d = done-true (way 31 (inPlace []) (inPlace card) card s refl) (add-fits card s) d
 call-done (removing card) s d = done-true (way 32 (inPlace card) (inPlace []) card s refl) (remove-fits card s) d
 
-call-refused : (c : SetCall) (s : CardSet) → isDone (outcomeOf c s) ≡ false → outcomeOf c s .left ≡ s
+call-refused : (c : SetCall) (s : CardSet) → isDone (setOutcomeOf c s) ≡ false → setOutcomeOf c s .left ≡ s
 call-refused (adding card) s d = refused-same (way 31 (inPlace []) (inPlace card) card s refl) d
 call-refused (removing card) s d = refused-same (way 32 (inPlace card) (inPlace []) card s refl) d
 
 -- ---- any calls
 all-true : (cs : List SetCall) (s : CardSet) → TrueSet s → TrueSet (afterAll cs s)
 all-true [] s t = t
-all-true (c ∷ cs) s t = all-true cs (outcomeOf c s .left) (call-true c s t)
+all-true (c ∷ cs) s t = all-true cs (setOutcomeOf c s .left) (call-true c s t)
 
 empty-true : TrueSet emptySet
 empty-true =
@@ -114,12 +114,12 @@ empty-true =
         omega (arith, low)
 
 summed : (s : CardSet) → TrueSet s → Summed s
-summed s t = record { afresh = t .summed; true-set = of-true s t }
+summed s t = record { afresh = t .summed; stays-true = of-true s t }
 
 pub totals-stay : TotalsStay
 totals-stay =
     record {
-      once = λ c s d. summed (outcomeOf c s .left) (call-done c s d);
+      once = λ c s d. summed (setOutcomeOf c s .left) (call-done c s d);
       always = λ cs s u. summed (afterAll cs s) (all-true cs s (true-set s u));
       from-empty = λ cs. summed (afterAll cs emptySet) (all-true cs emptySet empty-true);
       refused-keeps = call-refused;

@@ -11,20 +11,20 @@ pub data SetCall : Type 0 where
   removing : List ℕ → SetCall
 
 -- what comes of it
-abbrev pub outcomeOf : SetCall → CardSet → SetOutcome
-outcomeOf (adding card) s = addCall card s
-outcomeOf (removing card) s = removeCall card s
+abbrev pub setOutcomeOf : SetCall → CardSet → SetOutcome
+setOutcomeOf (adding card) s = addCall card s
+setOutcomeOf (removing card) s = removeCall card s
 
 -- it is not refused
 abbrev pub isDone : SetOutcome → Bool
-isDone o = eqb (o .answered .refusal) 0
+isDone o = eqb (o .answer .refusal) 0
 
 -- the set after several calls, each on what the one before has left
 abbrev pub afterAll : List SetCall → CardSet → CardSet
 afterAll [] s = s
-afterAll (c ∷ cs) s = afterAll cs (outcomeOf c s .left)
+afterAll (c ∷ cs) s = afterAll cs (setOutcomeOf c s .left)
 
 -- how many of several calls are of a kind and are not refused
 abbrev pub doneOf : (SetCall → Bool) → List SetCall → CardSet → ℕ
 doneOf kind [] s = 0
-doneOf kind (c ∷ cs) s = cond (kind c && isDone (outcomeOf c s)) 1 0 + doneOf kind cs (outcomeOf c s .left)
+doneOf kind (c ∷ cs) s = cond (kind c && isDone (setOutcomeOf c s)) 1 0 + doneOf kind cs (setOutcomeOf c s .left)

@@ -14,11 +14,12 @@ use Rattle.set_history.specs.Calls.{SetCall, adding, removing, afterAll,
 unfoldable pub copies : List ℕ → List ℕ → ℕ
 copies card bytes = sumBelow (λ (i : ℕ). cond (sameNumbers (placeAt bytes i) (inPlace card)) 1 0) places
 
--- a call puts this card in, or takes it out
+-- a call is for putting this card in
 abbrev pub puts : List ℕ → SetCall → Bool
 puts card (adding other) = sameNumbers other card
 puts card (removing other) = false
 
+-- a call is for taking it out
 abbrev pub takes : List ℕ → SetCall → Bool
 takes card (adding other) = false
 takes card (removing other) = sameNumbers other card

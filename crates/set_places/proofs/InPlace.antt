@@ -18,7 +18,7 @@ use Rattle.card_reader.specs.declared.judge.CardJudged.{CardJudged}
 use Rattle.card_reader.specs.declared.judge.CardJudged.the-variants.{Readable}
 use Rattle.card_reader.proofs.Ready.{Ready, ready}
 use Rattle.set_places.specs.Places.{places, placeSize, setSize, placeAt, allZero, lengthOn, cardIn, readWhole, isRead, spoilt, inPlace}
-use Rattle.set_places.proofs.Zeros.{in-place, card-of, behind-of, none-in-place, are-zeros, drop-zeros, take-zeros}
+use Rattle.set_places.proofs.Zeros.{in-place, card-of, behind-of, none-in-place, are-zeros, drop-zeros, take-zeros, passed}
 
 -- ---- fields at the front, whatever stands behind them
 fields-front : (widths bits rest : List ℕ) → total widths ≤ length bits → fieldsOf widths (bits ++ rest) ≡ fieldsOf widths bits
@@ -90,9 +90,6 @@ module _ (card : List ℕ) (l : Layout) (fits : length card ≤ placeSize) (read
 pub free-sound : spoilt (inPlace []) ≡ false
 unfolding spoilt
 free-sound = ap (λ (b : Bool). not b && not (isRead (readWhole (cardIn (inPlace []))) && allZero (drop (lengthOn (inPlace [])) (inPlace [])))) (passed (allZero (inPlace [])) (subst (λ (xs : List ℕ). T (allZero xs)) (sym none-in-place) (are-zeros placeSize)))
-  where
-    passed : (b : Bool) → T b → b ≡ true
-    passed true t = refl
 
 -- every place of zeros is free
 pub zeros-free : (i : ℕ) → i < places → placeAt (replicate setSize 0) i ≡ inPlace []

@@ -2,31 +2,38 @@
 use mathlib.Core.Path.{_≡_, refl, sym, ap, subst, _∙_}
 use mathlib.Core.Bool.{Bool, true, false, not, _&&_}
 use mathlib.Core.List.{List, [], _++_}
-use mathlib.Core.Logic.{_⊎_, inl, inr}
+use mathlib.Core.Logic.{_⊎_, _↔_, inl, inr}
 use Prim.Native.Nat.{ℕ, _-_, _≤_}
 use native.Mathlib.Omega.{arith}
 use lib.Dec.{T}
 use lib.ListN.{length, drop, replicate, length-take, length-drop, take-append-drop}
 use Rattle.bits.specs.Bits.{bitsOfBytes}
 use Rattle.card.specs.Layout.{mostSegments}
+use Rattle.card.specs.declared.layout.Layout.{Layout}
 use Rattle.card_reader.specs.Reading.{judgedOf, readAs}
 use Rattle.card_reader.specs.declared.judge.CardJudged.{CardJudged}
 use Rattle.card_reader.specs.declared.judge.CardJudged.the-variants.{Refused, Readable}
 use Rattle.set_places.specs.Places.{placeSize, allZero, lengthOn, cardIn, readWhole, isRead, spoilt, inPlace}
 use Rattle.set_places.specs.Sound.{Holds, SoundPlaces}
 use Rattle.set_places.proofs.Zeros.{zeros-are, in-place, none-in-place}
-use Rattle.set_places.proofs.InPlace.{sound-in-place, free-sound}
+use Rattle.set_places.proofs.InPlace.{card-in-place, sound-in-place, free-sound}
 
--- a card that reads, put into a place, leaves it sound
-held-sound : (place card : List ℕ) → Holds place card → spoilt place ≡ false
-held-sound place card h = by-reading (judgedOf card mostSegments) refl
+-- a card that a place holds reads under some layout
+held-readable : (place card : List ℕ) → Holds place card → (l : Layout) × (judgedOf card mostSegments ≡ Readable l)
+held-readable place card h = by-reading (judgedOf card mostSegments) refl
   where
-    by-reading : (j : CardJudged) → judgedOf card mostSegments ≡ j → spoilt place ≡ false
+    by-reading : (j : CardJudged) → judgedOf card mostSegments ≡ j → (l : Layout) × (judgedOf card mostSegments ≡ Readable l)
     by-reading (Refused number) e =
         let unread : true ≡ false = sym (h .reads) ∙ ap (λ (j : CardJudged). isRead (readAs (bitsOfBytes card) j)) e in
         let z : _≡_ {A = ℕ} 0 1 = cc unread in
         absurd (omega arith)
-    by-reading (Readable l) e = ap spoilt (h .there) ∙ sound-in-place card l (h .fits) e
+    by-reading (Readable l) e = (l, e)
+
+held-sound : (place card : List ℕ) → Holds place card → spoilt place ≡ false
+held-sound place card h = let r = held-readable place card h in ap spoilt (h .there) ∙ sound-in-place card (r .0) (h .fits) (r .1)
+
+held-found : (place card : List ℕ) → Holds place card → cardIn place ≡ card
+held-found place card h = let r = held-readable place card h in ap cardIn (h .there) ∙ card-in-place card (r .0) (h .fits) (r .1)
 
 module _ (place : List ℕ) (size : length place ≡ placeSize) where
   abbrev n : ℕ
@@ -52,11 +59,14 @@ module _ (place : List ℕ) (size : length place ≡ placeSize) where
       by-tests false true false z r b t = let z : _≡_ {A = ℕ} 0 1 = cc in absurd (omega arith)
       by-tests false false behind z r b t = let z : _≡_ {A = ℕ} 0 1 = cc in absurd (omega arith)
 
-pub sound-places : SoundPlaces
-sound-places place size = (
+sound-exactly : (place : List ℕ) → length place ≡ placeSize → (spoilt place ≡ false) ↔ ((place ≡ inPlace []) ⊎ ((card : List ℕ) × Holds place card))
+sound-exactly place size = (
   sound-holds place size,
   λ held. elim held [
     | inl free ↦ ap spoilt free ∙ free-sound
     | inr (card, h) ↦ held-sound place card h
   ],
 )
+
+pub sound-places : SoundPlaces
+sound-places = record { sound = sound-exactly; found = held-found }

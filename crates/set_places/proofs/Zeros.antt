@@ -1,6 +1,6 @@
 -- What a place holds, byte by byte: a card's bytes, and zeros behind them.
 use mathlib.Core.Path.{_≡_, refl, sym, ap, ap₂, subst, _∙_}
-use mathlib.Core.Bool.{_&&_}
+use mathlib.Core.Bool.{Bool, true, _&&_}
 use mathlib.Core.List.{List, [], _∷_, _++_}
 use Prim.Native.Nat.{ℕ, zero, suc, _+_, _-_, _≤_}
 use native.Mathlib.Nat.{not-suc-le-zero, le-of-suc-le-suc}
@@ -16,6 +16,10 @@ use Rattle.laws.proofs.Every.{each, every-of}
 use Rattle.laws.proofs.Front.{length-list, getD-list}
 use Rattle.set_places.specs.Places.{placeSize, allZero, inPlace}
 use Rattle.laws.proofs.Same.{same-is, same-of}
+
+-- a test that holds
+pub passed : (b : Bool) → T b → b ≡ true
+passed true t = refl
 
 -- bytes that are all zeros, and back
 pub zeros-are : (bytes : List ℕ) → T (allZero bytes) → bytes ≡ replicate (length bytes) 0

@@ -24,9 +24,9 @@ placeSize = 512
 abbrev pub setSize : ℕ
 setSize = places * placeSize
 
--- the bytes of place i
+-- the bytes of place i, of a set's
 unfoldable pub placeAt : List ℕ → ℕ → List ℕ
-placeAt set i = take placeSize (drop (i * placeSize) set)
+placeAt bytes i = take placeSize (drop (i * placeSize) bytes)
 
 -- only zeros
 unfoldable pub allZero : List ℕ → Bool
@@ -56,17 +56,17 @@ spoilt place = not (allZero place) && not (isRead (readWhole (cardIn place)) && 
 
 -- one of a set's places is
 unfoldable pub anySpoilt : List ℕ → Bool
-anySpoilt set = anyBelow (λ (i : ℕ). spoilt (placeAt set i)) places
+anySpoilt bytes = anyBelow (λ (i : ℕ). spoilt (placeAt bytes i)) places
 
 -- ---- places changed
 -- a place with a card at its front and zeros behind it; of no bytes, a free place
 unfoldable pub inPlace : List ℕ → List ℕ
 inPlace card = front card (replicate placeSize 0)
 
--- the lowest place with this content, or their number
+-- the lowest place with this content; where none has it, the number of places
 unfoldable pub lowestWith : List ℕ → List ℕ → ℕ
-lowestWith content set = first (λ (i : ℕ). sameNumbers (placeAt set i) content) places 0
+lowestWith content bytes = first (λ (i : ℕ). sameNumbers (placeAt bytes i) content) places 0
 
--- a set once place i has this content
+-- a set's bytes once place i has this content
 unfoldable pub placed : ℕ → List ℕ → List ℕ → List ℕ
-placed i content set = take (i * placeSize) set ++ (content ++ drop placeSize (drop (i * placeSize) set))
+placed i content bytes = take (i * placeSize) bytes ++ (content ++ drop placeSize (drop (i * placeSize) bytes))

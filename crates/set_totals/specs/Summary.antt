@@ -40,17 +40,17 @@ abbrev pub ofReading : (Meaning → ℕ) → Reading → ℕ
 ofReading of (refused number) = 0
 ofReading of (says m) = of m
 
--- the sum of a number over the cards in a set
+-- the sum of a number over the cards in a set's bytes
 unfoldable pub overCards : (Meaning → ℕ) → List ℕ → ℕ
-overCards of set = sumBelow (λ (i : ℕ). ofReading of (readWhole (cardIn (placeAt set i)))) places
+overCards of bytes = sumBelow (λ (i : ℕ). ofReading of (readWhole (cardIn (placeAt bytes i)))) places
 
 -- worked out afresh from the cards in a set
 unfoldable pub summaryOf : List ℕ → Summary
-summaryOf set =
+summaryOf bytes =
     record {
-      totals = list (λ (key : ℕ). overCards (λ (m : Meaning). keyTime m key) set) 24;
-      cards = overCards (λ (m : Meaning). 1) set;
-      keyless = overCards (λ (m : Meaning). keylessOf (m .header)) set;
+      totals = list (λ (key : ℕ). overCards (λ (m : Meaning). keyTime m key) bytes) 24;
+      cards = overCards (λ (m : Meaning). 1) bytes;
+      keyless = overCards (λ (m : Meaning). keylessOf (m .header)) bytes;
     }
 
 -- a summary as it is lent: 26 numbers

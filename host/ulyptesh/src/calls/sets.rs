@@ -62,33 +62,22 @@ unsafe extern "C" {
     ) -> SetChange;
 }
 
+/// Either of the two calls.
+type OnSet = unsafe extern "C" fn(*mut u8, usize, *mut u64, usize, *const u8, usize) -> SetChange;
+
+fn changed(call: OnSet, set: &mut [u8], summary: &mut [u64], card: &[u8]) -> SetChange {
+    let ([set_count, summary_count], card_count) = ([set.len(), summary.len()], card.len());
+    // SAFETY: each pointer and count are one slice, which outlives the call; set and summary are exclusive.
+    unsafe { call(set.as_mut_ptr(), set_count, summary.as_mut_ptr(), summary_count, card.as_ptr(), card_count) }
+}
+
 /// Puts a card into the lowest free place of a set, and its numbers into the summary.
 pub fn add_card(set: &mut [u8], summary: &mut [u64], card: &[u8]) -> SetChange {
-    // SAFETY: each pointer and count are one slice, which outlives the call; set and summary are exclusive.
-    unsafe {
-        ulyptesh_add_card(
-            set.as_mut_ptr(),
-            set.len(),
-            summary.as_mut_ptr(),
-            summary.len(),
-            card.as_ptr(),
-            card.len(),
-        )
-    }
+    changed(ulyptesh_add_card, set, summary, card)
 }
 
 /// Takes a card out of the lowest place of a set that has its bytes, which become zeros, and its numbers out of the
 /// summary.
 pub fn remove_card(set: &mut [u8], summary: &mut [u64], card: &[u8]) -> SetChange {
-    // SAFETY: each pointer and count are one slice, which outlives the call; set and summary are exclusive.
-    unsafe {
-        ulyptesh_remove_card(
-            set.as_mut_ptr(),
-            set.len(),
-            summary.as_mut_ptr(),
-            summary.len(),
-            card.as_ptr(),
-            card.len(),
-        )
-    }
+    changed(ulyptesh_remove_card, set, summary, card)
 }
