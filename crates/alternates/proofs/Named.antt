@@ -6,7 +6,7 @@ use Prim.Native.Nat.{ℕ, zero, suc, ◌<◌}
 use native.Mathlib.Nat.{not-suc-le-zero, le_of_suc-le-suc}
 use native.Mathlib.Omega.{arith}
 use lib.ListN.{length}
-use lib.Dec.{T, eqb, eqb→eq, T_not, not_t}
+use lib.Dec.{T, eqb, eqb→eq, T_not, not_T}
 use lib.Ieee.{Float, nan, inf, fin, binary32, binary64, of_bits, add, div, lt, le}
 use lib.Ieee.Fits.{and_l, and_r, and_i}
 use borrow.Author.Tests.{eq-eqb, ne_eqb, eqb-true}
@@ -55,7 +55,7 @@ positive-total all p n = go all p (above_of_le instant all tt (lt→le instant a
 by_value : (x y : Float) → T (clear x) → T (clear y) → T (total_order x y) → T (le x y)
 by_value x y c d h =
     not-lt→le y x (clear→ordered y d) (clear→ordered x c)
-    (not_t (lt y x) (λ less. subst T ((total-order binary64).by_value y x less).1 h))
+    (not_T (lt y x) (λ less. subst T ((total-order binary64).by_value y x less).1 h))
 
 nobody-named : {key : ℕ} {coverage : Float} → Nobody ≡ Named key coverage → ⊥
 nobody-named e = let z : ◌≡◌ {A = ℕ} 0 1 = cc in omega arith
@@ -149,7 +149,7 @@ module _ (reported : ℕ) (segments : List Segment) where
       let s = segment_at segments place in
       let long = and_l (lasting s) (eqb (key_number s.key) key) (subst T (sym lasts) tt) in
       let part = subst (λ (x : Float). T (le (held_seconds s) x)) (sym (total-is segments (omega (arith, there)))) (part_of segments place (length segments) there) in
-      not_t (le (total_of segments) instant) (λ h. T_not (le (held_seconds s) instant) long (le_trans (held_seconds s) (total_of segments) instant part h))
+      not_T (le (total_of segments) instant) (λ h. T_not (le (held_seconds s) instant) long (le_trans (held_seconds s) (total_of segments) instant part h))
 
 module _ (reported : ℕ) (threshold : Float) (segments : List Segment) (o : T (ordered threshold)) (p : T (nonneg (total_of segments))) where
   rightly : (key : ℕ) (coverage : Float) → alternate_of reported threshold segments ≡ Named key coverage → Rightly reported threshold segments key coverage
@@ -180,14 +180,14 @@ module _ (reported : ℕ) (threshold : Float) (segments : List Segment) (o : T (
       long = above-instant reported segments key r.place r.there r.lasts
 
       passed : (x : Alternate) → cond (le threshold plus_zero || eqb (length segments) 0) Nobody (cond (le (total_of segments) instant) Nobody x) ≡ x
-      passed x = rw (is_false (le threshold plus_zero) (not_t (le threshold plus_zero) (λ h. lt_not_le plus_zero threshold above h)), ne_eqb (length segments) 0 (λ none. omega (arith, none, r.there)), is_false (le (total_of segments) instant) long)
+      passed x = rw (is_false (le threshold plus_zero) (not_T (le threshold plus_zero) (λ h. lt_not_le plus_zero threshold above h)), ne_eqb (length segments) 0 (λ none. omega (arith, none, r.there)), is_false (le (total_of segments) instant) long)
 
       found : (s : Standing Float) → rival_of reported segments ≡ s → (k : ℕ) × (c : Float) × (alternate_of reported threshold segments ≡ Named k c)
       found nobody e = absurd (somebody-leads total_order InFormat order-ranks (seconds_of segments) (λ k. (seconds-amount segments k).in_format) (rivals reported segments) key (rival-at reported segments key r.place r.there r.other r.lasts) (unfold rival_of in e))
       found (leads k sum) e =
           let l = leader reported segments k sum e in
           let all = total_of segments in
-          let enough : lacks threshold (coverage_of all sum) ≡ false = is_false _ (not_t (lacks threshold (coverage_of all sum)) (λ t.
+          let enough : lacks threshold (coverage_of all sum) ≡ false = is_false _ (not_T (lacks threshold (coverage_of all sum)) (λ t.
           subst T r.enough (lacks-mono threshold all (seconds_of segments key) (seconds_of segments k) (positive-total all p long) (seconds-amount segments key).plus (seconds-amount segments k).plus (leads-most reported segments threshold k sum l key r) (subst (λ (x : Float). T (lacks threshold (coverage_of all x))) l.own_amount t)))) in
           (k, coverage_of all sum, passed _ ∙ ap (named_unless_lacking threshold all) e ∙ ap (λ (b : Bool). cond b Nobody (Named k (coverage_of all sum))) enough)
 

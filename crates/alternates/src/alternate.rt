@@ -17,21 +17,21 @@ use numbers::double::{larger, total_before};
 use timeline::segment::{Segment, segment_seconds, stretch_at};
 
 // No alternate, or a key by its number with the part of the track that it covers.
-#[derive(Drop)]
+#[derive(Clone, Copy)]
 pub enum Alternate {
     Nobody,
     Named(u8, f32),
 }
 
 // The other key that leads so far, with its seconds.
-#[derive(Drop)]
+#[derive(Clone, Copy)]
 enum Rival {
     None,
     Leads(u8, f64),
 }
 
 // Each key's seconds, and the keys in the order in which they are first met, behind the reported one.
-#[derive(Drop)]
+#[derive(Clone, Copy)]
 struct Noted {
     sums: [f64; 24],
     order: [u8; 24],

@@ -1,2 +1,4 @@
 // The alternate key beside the reported one.
+#![tactic(auto)]
+
 pub mod alternate;

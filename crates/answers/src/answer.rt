@@ -12,7 +12,7 @@ use verdicts::verdict::Verdict;
 // Refusal or 0, the position that 9 names, keys by number (24 for a missing one), 1 where the chroma has no shape, how
 // many rows are written, chroma.
 #[repr(C)]
-#[derive(Drop)]
+#[derive(Clone, Copy)]
 pub struct AnalyseResult {
     pub refusal: u32,
     pub position: u64,
@@ -29,7 +29,7 @@ pub struct AnalyseResult {
 }
 
 // How many rows of each kind are written.
-#[derive(Drop)]
+#[derive(Clone, Copy)]
 pub struct Counts {
     pub frames: usize,
     pub estimates: usize,

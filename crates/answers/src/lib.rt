@@ -1,2 +1,4 @@
 // The answer of an analysis, as numbers.
+#![tactic(auto)]
+
 pub mod answer;

@@ -5,7 +5,7 @@ ghost use Rattle.bits.specs.inside.Pens.{CanPut, BitsPut};
 use crate::masks::{joined, low_bits};
 
 // Where a pen stands: `at` whole bytes are written, and `count` bits, below 8, wait as a number.
-#[derive(Drop)]
+#[derive(Clone, Copy)]
 pub struct Pen {
     pub at: usize,
     pub count: usize,

@@ -7,7 +7,7 @@ use constant_q::lanes::{Lane, Lanes, power_per_count, step_lanes};
 use filters::four::{Delays, Four, four_at_rest};
 
 // The delayed values of eight resonators: of the four earlier positions and of the four later ones.
-#[derive(Drop)]
+#[derive(Clone, Copy)]
 pub struct Eight {
     pub early: Delays,
     pub late: Delays,

@@ -7,14 +7,14 @@ use crate::block::{are_whole, write_chromas};
 use constant_q::chroma::constant_q_chroma;
 
 // The positions that a block holds the chromas of: so many, from the first on.
-#[derive(Drop)]
+#[derive(Clone, Copy)]
 pub struct Held {
     pub first: usize,
     pub count: usize,
 }
 
 // The chroma of a position, and what the block holds then.
-#[derive(Drop)]
+#[derive(Clone, Copy)]
 pub struct Handed {
     pub held: Held,
     pub chroma: [f32; 12],

@@ -1,11 +1,12 @@
 // What a call is asked, and what the sheet that it lends was made for.
+#![tactic(auto)]
 
 // The longest track in seconds.
 pub const LONGEST_TRACK: usize = 86_400;
 
 // The track's rate, then the Rust's `KeyConfig`, then the engine: 0 all rows side by side, 1 four rows at a time.
 #[repr(C)]
-#[derive(Drop)]
+#[derive(Clone, Copy)]
 pub struct Settings {
     pub rate: u32,
     pub frame_size: usize,
@@ -22,7 +23,7 @@ pub struct Settings {
 
 // What a table sheet states about itself.
 #[repr(C)]
-#[derive(Drop)]
+#[derive(Clone, Copy)]
 pub struct SheetHead {
     pub rate: u32,
     pub minimum_midi_note: u8,

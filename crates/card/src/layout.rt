@@ -3,7 +3,7 @@ ghost use Rattle.std.specs.Prelude.{◌≡◌};
 ghost use Rattle.card.specs.Layout.{layout1, layout2, layouts, numbered_in, is_found, layout_or1};
 
 // A layout's number, the bits of its segment count and of an end, the most segments, and the last end in ms.
-#[derive(Drop)]
+#[derive(Clone, Copy)]
 pub struct Layout {
     pub number: u64,
     pub count: usize,
@@ -13,7 +13,7 @@ pub struct Layout {
 }
 
 // A header's packed numbers; a missing key is 24.
-#[derive(Drop)]
+#[derive(Clone, Copy)]
 pub struct Header {
     pub key: u64,
     pub dsp: u64,
@@ -23,7 +23,7 @@ pub struct Header {
 }
 
 // A segment's packed numbers.
-#[derive(Drop)]
+#[derive(Clone, Copy)]
 pub struct Segment {
     pub end: u64,
     pub key: u64,
@@ -63,7 +63,7 @@ pub fn layout_2() -> Layout
 }
 
 // A layout that was looked for, or that there is none.
-#[derive(Drop)]
+#[derive(Clone, Copy)]
 pub enum FoundLayout {
     Found(Layout),
     Missing,

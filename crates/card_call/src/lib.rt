@@ -1,4 +1,6 @@
 // The call "write a card", whole.
+#![tactic(auto)]
+
 ghost use Rattle.std.specs.Prelude.{◌≡◌};
 ghost use Rattle.card_judge.specs.Analysed.{analysis};
 ghost use Rattle.card_call.specs.Cards.{overall, card_call};

@@ -9,7 +9,7 @@ use card_form::unequal_lengths;
 use packed::{milliseconds, number_or, thousandths};
 
 // What an analysis says of the whole track: keys by number, 24 for a missing one.
-#[derive(Drop)]
+#[derive(Clone, Copy)]
 pub struct Overall {
     pub key: u32,
     pub dsp: u32,

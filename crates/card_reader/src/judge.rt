@@ -13,7 +13,7 @@ use card::rules::{header_broken, segment_broken};
 use card_form::card_size;
 
 // A card that is refused by a number, or the layout under which it is read.
-#[derive(Drop)]
+#[derive(Clone, Copy)]
 pub enum CardJudged {
     Refused(u32),
     Readable(Layout),

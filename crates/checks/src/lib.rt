@@ -1,4 +1,6 @@
 // The checks of a call, in the table's order.
+#![tactic(auto)]
+
 ghost use Rattle.std.specs.Prelude.{◌≡◌, ◌<◌, ◌≤◌, min, ◌||◌, ltb, length};
 ghost use Rattle.calls.specs.Call.{given, positions_of};
 ghost use Rattle.checks.specs.Checks.{all_finite, nothing_to_do, checked};
@@ -10,7 +12,7 @@ use sheets::{matches, well_formed};
 
 // What the checks say of a call: refused by a number, the Rust's empty answer, or as many frame
 // positions to go through.
-#[derive(Drop)]
+#[derive(Clone, Copy)]
 pub enum Checked {
     Refused(u32),
     Empty,

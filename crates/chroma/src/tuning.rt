@@ -5,7 +5,7 @@ ghost use Rattle.chroma.specs.Tuning.{peak_added, bin_added, frame_added, frames
 use numbers::single::clamp;
 
 // Peaks' heights, and their offsets times their heights.
-#[derive(Drop)]
+#[derive(Clone, Copy)]
 pub struct Peaks {
     pub heights: f32,
     pub offsets: f32,

@@ -1,4 +1,6 @@
 // The calls on a chroma, whole: the 24 scores, and the key with the highest and the second of them.
+#![tactic(auto)]
+
 ghost use Rattle.std.specs.Prelude.{◌≡◌, ◌≤◌, length};
 ghost use Rattle.laws.specs.Front.{front};
 ghost use Rattle.chroma_calls.specs.FromChroma.{scores_outcome, scores_call, judged, key_call};
@@ -11,7 +13,7 @@ use scores::scoring::score_keys;
 
 // The refusal's number, or 0; 1 where the chroma has no shape, else 0.
 #[repr(C)]
-#[derive(Drop)]
+#[derive(Clone, Copy)]
 pub struct ScoresResult {
     pub refusal: u32,
     pub shapeless: u32,
@@ -20,7 +22,7 @@ pub struct ScoresResult {
 // The refusal's number, or 0; the key's number, or 24; its score, the second one's, and the confidence; 1 where the
 // chroma has no shape, else 0.
 #[repr(C)]
-#[derive(Drop)]
+#[derive(Clone, Copy)]
 pub struct KeyResult {
     pub refusal: u32,
     pub key: u32,

@@ -11,7 +11,7 @@ use numbers::counts::fewer;
 use numbers::single::larger;
 
 // Where a row's samples and window values begin, how many there are, and how its resonator is tuned.
-#[derive(Drop)]
+#[derive(Clone, Copy)]
 pub struct Lane {
     pub start: usize,
     pub first: usize,
@@ -20,7 +20,7 @@ pub struct Lane {
 }
 
 // Four rows.
-#[derive(Drop)]
+#[derive(Clone, Copy)]
 pub struct Lanes {
     pub a: Lane,
     pub b: Lane,

@@ -11,14 +11,14 @@ use crate::span::span_around;
 use filters::four::put_four;
 
 // A row, and where the window behind its own begins among the joined ones.
-#[derive(Drop)]
+#[derive(Clone, Copy)]
 pub struct Placed {
     pub lane: Lane,
     pub next: usize,
 }
 
 // Four rows, and where the window behind the last one's begins.
-#[derive(Drop)]
+#[derive(Clone, Copy)]
 pub struct PlacedLanes {
     pub lanes: Lanes,
     pub next: usize,

@@ -6,7 +6,7 @@ ghost use Rattle.constant_q.specs.inside.Powers.{covered_span};
 use numbers::counts::fewer;
 
 // The part of the track that a window covers: its first sample, and how many there are.
-#[derive(Drop)]
+#[derive(Clone, Copy)]
 pub struct Span {
     pub start: usize,
     pub count: usize,

@@ -8,7 +8,7 @@ use numbers::single::larger;
 use roots::square_root;
 
 // What a correlation's products are divided by, and whether 2^-23 took the place of a smaller number.
-#[derive(Drop)]
+#[derive(Clone, Copy)]
 pub struct Divisor {
     pub value: f32,
     pub held_up: bool,

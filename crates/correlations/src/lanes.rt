@@ -3,7 +3,7 @@ ghost use Rattle.std.specs.Prelude.{◌≡◌, ◌≤◌};
 ghost use Rattle.correlations.specs.inside.Lanes.{alike, four_at, added_four, lanes_of};
 
 // One value for each of four roots upward.
-#[derive(Drop)]
+#[derive(Clone, Copy)]
 pub struct Four {
     pub first: f32,
     pub second: f32,

@@ -5,7 +5,7 @@ ghost use Rattle.filters.specs.Four.{rest_of_four, stepped_four, put_four};
 use crate::resonator::{Delay, at_rest, step};
 
 // A number for each of four rows.
-#[derive(Drop)]
+#[derive(Clone, Copy)]
 pub struct Four {
     pub a: f32,
     pub b: f32,
@@ -14,7 +14,7 @@ pub struct Four {
 }
 
 // The delayed values of four resonators.
-#[derive(Drop)]
+#[derive(Clone, Copy)]
 pub struct Delays {
     pub a: Delay,
     pub b: Delay,

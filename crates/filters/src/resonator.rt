@@ -5,14 +5,14 @@ ghost use Rattle.filters.specs.Resonator.{windowed_of, stepped_of, at_rest, powe
 use numbers::single::is_finite;
 
 // The two values that a resonator remembers.
-#[derive(Drop)]
+#[derive(Clone, Copy)]
 pub struct Delay {
     pub last: f32,
     pub before: f32,
 }
 
 // What the sheet has for a note: how its resonator is tuned, and how much it counts.
-#[derive(Drop)]
+#[derive(Clone, Copy)]
 pub struct GoertzelRow {
     pub coefficient: f32,
     pub weight: f32,

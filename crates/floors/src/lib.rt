@@ -1,4 +1,6 @@
 // The whole number at or below a float.
+#![tactic(auto)]
+
 ghost use Rattle.std.specs.Prelude.{◌≡◌};
 ghost use Rattle.floors.specs.Floor.{floored};
 

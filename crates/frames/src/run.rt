@@ -10,7 +10,7 @@ use one_frame::frame::{Row, frame_energy, frame_row, is_loud, is_whole};
 
 // What the run says: all positions with so many rows written, or the position that is not finite with
 // so many rows before it.
-#[derive(Drop)]
+#[derive(Clone, Copy)]
 pub enum Filled {
     All(usize),
     NotFinite(usize, usize),

@@ -1,4 +1,6 @@
 // The call "frames only", whole.
+#![tactic(auto)]
+
 ghost use Rattle.std.specs.Prelude.{◌≡◌};
 ghost use Rattle.calls.specs.Call.{given};
 ghost use Rattle.calls.specs.Rows.{lent_rows};
@@ -11,7 +13,7 @@ use frames::run::{Filled, fill_rows};
 
 // The refusal's number, or 0; the frame position that is not finite, or 0; how many rows were written.
 #[repr(C)]
-#[derive(Drop)]
+#[derive(Clone, Copy)]
 pub struct FramesResult {
     pub refusal: u32,
     pub position: u64,

@@ -6,7 +6,7 @@ use mathlib.Core.Bool.{Bool, true, false, not, cond, ◌&&◌}
 use mathlib.Core.List.{[]}
 use native.Mathlib.Nat.{not-suc-le-zero}
 use native.Mathlib.Omega.{arith}
-use lib.Dec.{T, not_t, T_not}
+use lib.Dec.{T, not_T, T_not}
 use lib.ListN.{get_or}
 use lib.Ieee.{Float, nan, lt, le}
 use Rattle.laws.specs.First.{first}
@@ -77,7 +77,7 @@ module _ {h : Heard} {a : Ahead} {start : Float} (known : Known h a start) (end 
       let all : T (rises h.frames h.centres) = subst T (sym r ∙ known.rising) tt in
       subst (λ (j : ℕ). T (is_past h.centres end j)) at
       (handed-on le nan h.centres h.frames (λ (x : Float). T (not (lt x end))) all
-      (λ x y l p. not_t (lt y end) (λ t. T_not (lt x end) p (lt_of_le_of_lt x y end l t)))
+      (λ x y l p. not_T (lt y end) (λ t. T_not (lt x end) p (lt_of_le_of_lt x y end l t)))
       i (k - i) (omega (arith, high)) (subst T (sym here) tt))
 
   stops-by : (b : Bool) → a.rising ≡ b → Stops h a end (cond b (first (is_past h.centres end) (a.frames - a.from) a.from) a.frames)

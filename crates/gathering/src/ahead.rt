@@ -3,7 +3,7 @@ ghost use Rattle.std.specs.Prelude.{◌≡◌, ◌≤◌, length};
 ghost use Rattle.gathering.specs.inside.Ahead.{rises, ahead_of, first_from, skipped_to, stop_of};
 
 // So many frames, the first that a window may count, and whether no centre is below the one before it.
-#[derive(Drop)]
+#[derive(Clone, Copy)]
 pub struct Ahead {
     pub frames: usize,
     pub from: usize,

@@ -7,7 +7,7 @@ use crate::ahead::{Ahead, find_stop};
 use numbers::twelve::add_twelve;
 
 // The sums of the twelve values, and how many frames are in them.
-#[derive(Drop)]
+#[derive(Clone, Copy)]
 pub struct Gathered {
     pub chroma: [f32; 12],
     pub frames: usize,

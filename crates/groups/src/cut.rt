@@ -13,7 +13,7 @@ use timeline::segment::{Segment, put_segment};
 use timeline::stored::stored_key;
 
 // The estimates from `from` up to `to`, and the time that they stand for.
-#[derive(Drop)]
+#[derive(Clone, Copy)]
 struct Group {
     from: usize,
     to: usize,

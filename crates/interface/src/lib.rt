@@ -1,4 +1,6 @@
 // The number of the C interface.
+#![tactic(auto)]
+
 ghost use Rattle.std.specs.Prelude.{◌≡◌};
 ghost use Rattle.interface.specs.Interface.{interface_number};
 

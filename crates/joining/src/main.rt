@@ -1,4 +1,6 @@
 // Shortens the segments of rows c to g of the request's table in a slice of records, and prints what is left.
+#![tactic(auto)]
+
 ghost use Rattle.std.specs.Prelude.{◌≡◌, ◌^◌, ◌<◌};
 ghost use Rattle.timeline.specs.Segments.{segment};
 ghost use Rattle.laws.specs.Values.{plus_zero};
@@ -14,7 +16,7 @@ use timeline::segment::{Segment, emptied_segment};
 use timeline::stored::stored_key;
 
 // Three records, of which so many hold segments.
-#[derive(Drop)]
+#[derive(Clone, Copy)]
 pub struct Three {
     pub count: usize,
     pub first: Segment,

@@ -9,7 +9,7 @@ use numbers::single::{clamp, magnitude};
 use scores::scoring::score_keys;
 
 // The Rust's `(key, best, second, scores)`, and whether the chroma has no shape.
-#[derive(Drop)]
+#[derive(Clone, Copy)]
 pub struct Classified {
     pub key: Key,
     pub best: f32,

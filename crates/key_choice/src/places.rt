@@ -6,13 +6,13 @@ use keys::numbers::key_from_index;
 use keys::{Key, Mode, Tonic};
 
 // A key with its score.
-#[derive(Drop)]
+#[derive(Clone, Copy)]
 pub struct Place {
     pub key: Key,
     pub score: f32,
 }
 
-#[derive(Drop)]
+#[derive(Clone, Copy)]
 pub struct Places {
     pub first: Place,
     pub second: Place,

@@ -1,4 +1,6 @@
 // A key's name, as the Rust's Display writes it: the tonic, a blank and the mode.
+#![tactic(auto)]
+
 ghost use Rattle.std.specs.Prelude.{◌≡◌, ◌≤◌, length, get_or};
 ghost use Rattle.laws.specs.Front.{front};
 ghost use Rattle.key_names.specs.Names.{tonic_name, mode_name, name_of, padded};

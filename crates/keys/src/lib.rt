@@ -1,8 +1,10 @@
 // Keys: twelve tonics and two modes, their numbers, and which keys are relatives.
+#![tactic(auto)]
+
 pub mod numbers;
 
 // The Rust's PitchClass.
-#[derive(Drop)]
+#[derive(Clone, Copy)]
 pub enum Tonic {
     C,
     CSharp,
@@ -18,14 +20,14 @@ pub enum Tonic {
     B,
 }
 
-#[derive(Drop)]
+#[derive(Clone, Copy)]
 pub enum Mode {
     Major,
     Minor,
 }
 
 // The Rust's MusicalKey.
-#[derive(Drop)]
+#[derive(Clone, Copy)]
 pub struct Key {
     pub tonic: Tonic,
     pub mode: Mode,

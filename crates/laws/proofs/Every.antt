@@ -52,6 +52,7 @@ any_of test (suc n) k h t =
 
 pub any_at : (test : ℕ → Bool) (n : ℕ) → T (any_below test n) → (k : ℕ) × (k < n) × T (test k)
 unfolding any_below
+any_at test zero t = elim t [ ]
 any_at test (suc n) t =
     elim (or_split (any_below test n) (test n) t) [
       | inl s ↦ let found = any_at test n s in (found.0, omega (arith, found.1), found.2)

@@ -7,7 +7,7 @@ use native.Mathlib.Nat.{lt_of_not-le, le_trans, le_of_eq, not-le_of_lt, mul_comm
 use native.Mathlib.Omega.{arith}
 use mathlib.Core.Bool.{Bool, true, false, cond}
 use lib.IntN.{ℤ}
-use lib.Dec.{T, ltb, eqb, ltb→lt, not_t, eqb→eq}
+use lib.Dec.{T, ltb, eqb, ltb→lt, not_T, eqb→eq}
 use lib.Ieee.{Float, nan, inf, fin, Format, prec, emax, low, up, down, odd, units, round, sum, add, sub, div, le, lt}
 use lib.Ieee.Fits.{up_pos, down_pos, round_is}
 use lib.Ieee.Bits.{cond_no}
@@ -93,7 +93,7 @@ pub lt→cross : (x y : Float) → T (nonneg x) → T (nonneg y) → T (lt x y) 
 lt→cross x y p q h = lt_of_not-le (λ (g : num y * den x ≤ num x * den y). lt_not_le x y h (cross→le y x q p g))
 
 pub cross→lt : (x y : Float) → T (nonneg x) → T (nonneg y) → num x * den y < num y * den x → T (lt x y)
-cross→lt x y p q h = not-le→lt x y (nonneg→ordered x p) (nonneg→ordered y q) (not_t (le y x) (λ (g : T (le y x)). not-le_of_lt h (le→cross y x q p g)))
+cross→lt x y p q h = not-le→lt x y (nonneg→ordered x p) (nonneg→ordered y q) (not_T (le y x) (λ (g : T (le y x)). not-le_of_lt h (le→cross y x q p g)))
 
 -- ---- a rounded fraction
 odd-clear : (d q k l : ℕ) → T (clear (odd d false q k l))
@@ -238,7 +238,7 @@ div-rounds f (fin false m e) (inf t) p q = absurd q
 div-rounds f (fin false m e) (fin true n d) p q = absurd q
 div-rounds f (fin false m e) (fin false n d) p q =
     record {
-      is = cond_no (eqb n 0) (cond (eqb m 0) nan (inf false)) (round f false (m * up e * down d) (n * up d * down e)) (not_t (eqb n 0) (λ (z : T (eqb n 0)). not-zero n (ltb→lt 0 n q) (eqb→eq n 0 z)));
+      is = cond_no (eqb n 0) (cond (eqb m 0) nan (inf false)) (round f false (m * up e * down d) (n * up d * down e)) (not_T (eqb n 0) (λ (z : T (eqb n 0)). not-zero n (ltb→lt 0 n q) (eqb→eq n 0 z)));
       some = mul-pos (mul-pos (ltb→lt 0 n q) (up_pos d)) (down_pos e);
     }
   where

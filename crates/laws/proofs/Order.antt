@@ -6,7 +6,7 @@ use Prim.Native.Nat.{ℕ, ◌+◌, ◌*◌, ◌≤◌, ◌<◌, zero-le}
 use native.Mathlib.Nat.{le_refl as nat-refl, le_of_eq, le_of_lt, le_antisymm, mul_right_comm, add-mul, zero-mul, mul-le-mul_right, le_of_mul-le-mul_right}
 use native.Mathlib.Omega.{arith}
 use mathlib.Core.Bool.{Bool, true, false, not, ◌&&◌, ◌||◌}
-use lib.Dec.{T, ltb, eqb, eqb→eq, ltb→lt, nltb→le, not_t, T_not}
+use lib.Dec.{T, ltb, eqb, eqb→eq, ltb→lt, nltb→le, not_T, T_not}
 use lib.Ieee.{Float, nan, inf, fin, up, down, below, level, lt, eq, le, neg}
 use lib.Ieee.Fits.{down_pos, and_l, and_r, and_i, eq→eqb}
 use Rattle.laws.specs.Values.{ordered, negative, clear}
@@ -199,15 +199,15 @@ not-le→lt x y o p n = go (lt x y) (not-lt→le x y o p)
     go false k = T_not (le y x) n (k tt)
 
 pub le→not-lt : (x y : Float) → T (le x y) → T (not (lt y x))
-le→not-lt x y h = not_t (lt y x) (λ (k : T (lt y x)). lt_not_le y x k h)
+le→not-lt x y h = not_T (lt y x) (λ (k : T (lt y x)). lt_not_le y x k h)
 
 pub lt_of_le_of_lt : (x y z : Float) → T (le x y) → T (lt y z) → T (lt x z)
 lt_of_le_of_lt x y z h k =
-    not-le→lt x z (le_left x y h) (le_right y z (lt→le y z k)) (not_t (le z x) (λ (n : T (le z x)). lt_not_le y z k (le_trans z x y n h)))
+    not-le→lt x z (le_left x y h) (le_right y z (lt→le y z k)) (not_T (le z x) (λ (n : T (le z x)). lt_not_le y z k (le_trans z x y n h)))
 
 pub lt_of_lt_of_le : (x y z : Float) → T (lt x y) → T (le y z) → T (lt x z)
 lt_of_lt_of_le x y z h k =
-    not-le→lt x z (le_left x y (lt→le x y h)) (le_right y z k) (not_t (le z x) (λ (n : T (le z x)). lt_not_le x y h (le_trans y z x k n)))
+    not-le→lt x z (le_left x y (lt→le x y h)) (le_right y z k) (not_T (le z x) (λ (n : T (le z x)). lt_not_le x y h (le_trans y z x k n)))
 
 -- the order turns round with the sign
 under_flip : (s : Bool) (a : ℕ) (t : Bool) (b : ℕ) → Under s a t b → Under (not t) b (not s) a

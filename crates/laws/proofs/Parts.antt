@@ -8,7 +8,7 @@ use native.Mathlib.Numerals.{add-one}
 use native.Mathlib.Omega.{arith}
 use mathlib.Core.Bool.{false}
 use lib.IntN.{pos}
-use lib.Dec.{T, not_t, lit<}
+use lib.Dec.{T, not_T, lit<}
 use lib.Pow.{pow-add, pow_pos, pow_mono}
 use lib.Ieee.{Float, fin, Format, binary32, binary64, prec, emax, low, of_int, add, lt, le}
 use lib.Ieee.Fits.{round-fits}
@@ -65,7 +65,7 @@ module _ (f : Format) (t : ℕ) (fine : t ≤ low f) where
       let p = (parts_held n h).at_least_zero in
       record {
         held = parts_held n h;
-        low_enough = not-le→lt x top (nonneg→ordered x p) tt (not_t (le top x) (λ (k : T (le top x)).
+        low_enough = not-le→lt x top (nonneg→ordered x p) tt (not_T (le top x) (λ (k : T (le top x)).
             not-le_of_lt (below_top n h) (over (num x) (den x) n (2 ^ emax f) (2 ^ t) (den_pos x) (parts-cross n h) (le→cross top x tt p k))));
       }
     where
@@ -84,7 +84,7 @@ module _ (f : Format) (t : ℕ) (fine : t ≤ low f) where
   floor-lt x p h =
       let y = parts f t (suc (floor_of x)) in
       let q = (parts_held (suc (floor_of x)) h).at_least_zero in
-      not-le→lt x y (nonneg→ordered x p) (nonneg→ordered y q) (not_t (le y x) (λ (k : T (le y x)).
+      not-le→lt x y (nonneg→ordered x p) (nonneg→ordered y q) (not_T (le y x) (λ (k : T (le y x)).
       not-le_of_lt (N.lt-div-mul-add {a = num x * 2 ^ t} (den_pos x))
       (N.le_trans (N.le_of_eq (sym (N.suc-mul (floor_of x) (den x))))
       (transfer (suc (floor_of x)) (num x) (2 ^ t) (den x) (num y) (num x) (den y) (den x) (den_pos y) (den_pos x) (sym (parts-cross (suc (floor_of x)) h)) refl (le→cross y x q p k)))))

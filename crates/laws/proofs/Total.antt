@@ -6,7 +6,7 @@ use native.Mathlib.Nat.{le_refl, le_antisymm, le_trans, le_of_eq, le_of_lt, lt_o
 use native.Mathlib.Omega.{arith}
 use mathlib.Core.Bool.{Bool, true, false, not, ◌||◌, cond}
 use lib.IntN.{ℤ}
-use lib.Dec.{T, ltb, leb, not_t, leb→le, le→leb, ltb→lt, lt→ltb, lit<}
+use lib.Dec.{T, ltb, leb, not_T, leb→le, le→leb, ltb→lt, lt→ltb, lit<}
 use lib.Arith.{lt_of_le-ne}
 use lib.Pow.{pow_pos, pow-add}
 use lib.Ieee.{Float, nan, inf, fin, Format, binary32, binary64, low, ones, hid, top, fits, is_nan, le, lt, to_bits}
@@ -44,7 +44,7 @@ bits-order f x y p q = (forth, back)
         (λ e. lt_not_le x y h (subst (λ (z : Float). T (le z x)) (known-by-bits f x y p.in_format q.in_format e) self))
 
     back : to_bits f x < to_bits f y → T (lt x y)
-    back h = not-le→lt x y (nonneg→ordered x p.at_least_zero) (nonneg→ordered y q.at_least_zero) (not_t (le y x) (λ (k : T (le y x)). not-le_of_lt h (bits_mono f y x q p k)))
+    back h = not-le→lt x y (nonneg→ordered x p.at_least_zero) (nonneg→ordered y q.at_least_zero) (not_T (le y x) (λ (k : T (le y x)). not-le_of_lt h (bits_mono f y x q p k)))
 
 -- ---- the same with the infinity, whose pattern is above every other
 pub held-lt : (f : Format) (x : Float) → Held f x → to_bits f x < ones f * hid f
@@ -304,7 +304,7 @@ same_rank f x y h k e l g =
     let yn = ordered-is y (le_right x y l) in
     let up = is_false (lt y x) (le→not-lt x y l) in
     let down = is_false (lt x y) (le→not-lt y x g) in
-    let one-sign : (b : Bool) → T (b || not b) = λ b. elim b [ true ↦ tt | false ↦ tt ] in
+    let one-sign : (b : Bool) → T (b || not b) = λ b. elim b as (λ k. T (k || not k)) [ true ↦ tt | false ↦ tt ] in
     let forth : T (total_order x y) = rw (xn, yn, up, down, e) (one-sign (negative y)) in
     let back : T (total_order y x) = rw (yn, xn, up, down, e) (one-sign (negative y)) in
     known_by_key f x y h k (le_antisymm (key-le f x y h k forth) (key-le f y x k h back))

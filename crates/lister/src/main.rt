@@ -1,4 +1,6 @@
 // Reads a card from standard input, and prints its key and its segments, or why it is refused.
+#![tactic(auto)]
+
 use libc::{STDIN_FILENO, STDOUT_FILENO};
 use listing::cards::{listing_room, write_listing};
 

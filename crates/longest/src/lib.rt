@@ -1,2 +1,4 @@
 // The reported key: the longest segment's where there are several.
+#![tactic(auto)]
+
 pub mod longest;

@@ -1,4 +1,6 @@
 // The magnitudes that the rows' notes have in one frame, by either of two engines.
+#![tactic(auto)]
+
 pub mod batch;
 pub mod row;
 pub mod side_by_side;

@@ -1,2 +1,4 @@
 // The key that most of a group tells.
+#![tactic(auto)]
+
 pub mod majority;

@@ -5,7 +5,7 @@ ghost use Rattle.majorities.specs.Majority.{majority_of};
 ghost use Rattle.majorities.specs.inside.Tally.{tally_of, most_voted};
 
 // Each key's votes, and the keys in the order in which they are first met.
-#[derive(Drop)]
+#[derive(Clone, Copy)]
 struct Tally {
     votes: [usize; 24],
     order: [u8; 24],

@@ -1,4 +1,6 @@
 // The median of f32 values by selection: those that a sample shows far from it go, then its order key is found bit by bit, by counting.
+#![tactic(auto)]
+
 ghost use Rattle.std.specs.Prelude.{◌≡◌, ◌/◌, ◌<◌, ◌≤◌, length, take, drop, replicate};
 ghost use Rattle.laws.specs.Front.{front};
 ghost use Rattle.laws.specs.Values.{plus_zero};

@@ -1,4 +1,6 @@
 // The call "mend a card", whole.
+#![tactic(auto)]
+
 ghost use Rattle.std.specs.Prelude.{◌≡◌};
 ghost use Rattle.mend_call.specs.Mends.{card_mended, mend_outcome, mend_call};
 ghost use Rattle.mend_call.specs.inside.Mendable.{Headed, Mendable};
@@ -14,7 +16,7 @@ use numbers::flags::one_if;
 // What was kept of a card: the refusal's number, or 0; 1 where the alternate went; how many segments were kept, and how
 // many the old count claimed; how many bytes the mended card has.
 #[repr(C)]
-#[derive(Drop)]
+#[derive(Clone, Copy)]
 pub struct CardMended {
     pub refusal: u32,
     pub alternate_went: u32,

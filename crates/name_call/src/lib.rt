@@ -1,4 +1,6 @@
 // The call "write a key name", whole.
+#![tactic(auto)]
+
 ghost use Rattle.std.specs.Prelude.{◌≡◌};
 ghost use Rattle.name_call.specs.KeyNames.{key_name_of};
 ghost use Rattle.written.specs.Outcome.{bytes_outcome};

@@ -12,7 +12,7 @@ use goertzel::goertzel_chroma;
 use numbers::single::is_finite;
 
 // One loud frame: its centre in seconds, its chroma, its energy.
-#[derive(Drop)]
+#[derive(Clone, Copy)]
 pub struct Row {
     pub centre: f64,
     pub values: [f32; 12],

@@ -1,4 +1,6 @@
 // Numbers as a key card packs them: thousandths and milliseconds of a float's exact value, rounded down.
+#![tactic(auto)]
+
 ghost use Rattle.std.specs.Prelude.{◌≡◌, ◌^◌, ◌≤◌, ◌<◌};
 ghost use Rattle.packed.specs.Packing.{number_or, whole_times, thousandths_of, milliseconds_of};
 
@@ -7,7 +9,7 @@ use conversions::widen;
 use numbers::double::is_nan;
 
 // A packed number, or none.
-#[derive(Drop)]
+#[derive(Clone, Copy)]
 pub enum Packed {
     Number(u64),
     Refused,

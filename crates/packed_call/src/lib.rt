@@ -1,4 +1,6 @@
 // The call "write a card from packed numbers", whole.
+#![tactic(auto)]
+
 ghost use Rattle.std.specs.Prelude.{◌≡◌};
 ghost use Rattle.card_form.specs.Rows.{lent_card_rows};
 ghost use Rattle.packed_call.specs.PackedCards.{header_from, packed_call};

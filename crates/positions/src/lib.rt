@@ -1,2 +1,4 @@
 // All frame positions of a track in turn, and the analysis of its loud frames.
+#![tactic(auto)]
+
 pub mod run;

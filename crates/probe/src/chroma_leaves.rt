@@ -11,7 +11,7 @@ use onsets::weights::weight_at;
 use whitening::levels;
 
 #[repr(C)]
-#[derive(Drop)]
+#[derive(Clone, Copy)]
 pub struct Twelve {
     pub values: [f32; 12],
 }

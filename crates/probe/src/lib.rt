@@ -1,4 +1,6 @@
 // The leaves, exported for the comparison with the Rust. Never shipped.
+#![tactic(auto)]
+
 pub mod chroma_leaves;
 pub mod filters_of_sheet;
 pub mod keys_by_number;

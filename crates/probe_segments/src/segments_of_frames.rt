@@ -16,7 +16,7 @@ use windows::span::{rows_asked, span_of};
 
 // How many estimates and segments there are, with an outcome.
 #[repr(C)]
-#[derive(Drop)]
+#[derive(Clone, Copy)]
 pub struct ProbedSegments {
     pub outcome: u32,
     pub estimates: usize,

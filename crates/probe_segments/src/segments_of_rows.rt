@@ -17,7 +17,7 @@ use timeline::stored::stored_key;
 
 // An alternate's key number, 24 where there is none, and its coverage.
 #[repr(C)]
-#[derive(Drop)]
+#[derive(Clone, Copy)]
 pub struct ProbedAlternate {
     pub key: u8,
     pub coverage: f32,

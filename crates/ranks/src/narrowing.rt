@@ -7,7 +7,7 @@ use crate::values::value_of_key;
 use numbers::single::{from_pattern, order_key};
 
 // The value at `rank` of the first `left` values is sought; its order key is one of the `width` keys from `low` on.
-#[derive(Drop)]
+#[derive(Clone, Copy)]
 pub struct Sought {
     pub left: usize,
     pub rank: usize,
@@ -16,14 +16,14 @@ pub struct Sought {
 }
 
 // Two bounds.
-#[derive(Drop)]
+#[derive(Clone, Copy)]
 pub struct Pivots {
     pub low: f32,
     pub high: f32,
 }
 
 // Two bounds, with how many values are below each.
-#[derive(Drop)]
+#[derive(Clone, Copy)]
 pub struct Stretch {
     pub low: f32,
     pub high: f32,

@@ -1,4 +1,6 @@
 // The call "read a card", whole.
+#![tactic(auto)]
+
 ghost use Rattle.std.specs.Prelude.{◌≡◌, ◌^◌, ◌<◌};
 ghost use Rattle.laws.specs.Front.{list};
 ghost use Rattle.bits.specs.Bits.{bits_of_bytes};
@@ -15,7 +17,7 @@ use numbers::counts::fewer;
 // What a card says of the whole track: the refusal's number, or 0; keys by number, 24 for a missing one; coverage and
 // confidence in thousandths; how many segments there are.
 #[repr(C)]
-#[derive(Drop)]
+#[derive(Clone, Copy)]
 pub struct CardRead {
     pub refusal: u32,
     pub key: u32,

@@ -1,5 +1,7 @@
 // Segments in a lent slice of records: two join, the later ones move down, and short ones join their neighbours.
 // `record_at` and `put_record` alone reach into the slice; what is done to a record is done by value.
+#![tactic(auto)]
+
 ghost use Rattle.std.specs.Prelude.{◌≡◌, ◌+◌, ◌-◌, ◌^◌, ◌<◌, ◌≤◌, length, set, take};
 ghost use Rattle.timeline.specs.Segments.{emptied, segment_at};
 ghost use Rattle.timeline.specs.Counts.{total_windows};

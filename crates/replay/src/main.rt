@@ -1,4 +1,6 @@
 // Replays the stored answers of the Rust, for scores and keys and for whole analyses, and prints what it found.
+#![tactic(auto)]
+
 ghost use Rattle.io.specs.Counts.{IsPrefixLen};
 
 use libc::STDOUT_FILENO;

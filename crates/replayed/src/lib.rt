@@ -1,6 +1,8 @@
 // Replays stored answers of the Rust: a record is 41 numbers of 32 bits, each with its lowest byte
 // first. They are the patterns of a chroma's 12 values and of its 24 scores, the key number, the
 // patterns of best score, second score and confidence, and 1 where the chroma has no shape, else 0.
+#![tactic(auto)]
+
 ghost use Rattle.std.specs.Prelude.{◌≡◌, ◌+◌, ◌*◌, ◌≤◌, length};
 ghost use Rattle.replayed.specs.Records.{word_at, value_at, same_value, chroma_at, same_scores, same_key, agrees, differing};
 

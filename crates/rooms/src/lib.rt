@@ -1,4 +1,6 @@
 // What an analysis is lent, and whether it suffices: its room, for row 8 of the check table, and its haste, for row 5.
+#![tactic(auto)]
+
 ghost use Rattle.std.specs.Prelude.{◌≡◌, ◌||◌, min, ltb};
 ghost use Rattle.windows.specs.Span.{span_of, rows_asked};
 ghost use Rattle.rooms.specs.Room.{hasty};

@@ -2,6 +2,8 @@
 // arithmetic on its bit pattern. A positive finite x is s * 2 ^ (e - 275) with a significand s of 24
 // binary digits. With n = s * 2 ^ 23, or twice that where e is odd, √x is √n times a power of two.
 // So the 24 digits of the result are the whole number nearest to √n.
+#![tactic(auto)]
+
 ghost use Rattle.std.specs.Prelude.{◌≡◌, ◌+◌, ◌*◌, ◌<◌};
 ghost use Rattle.roots.specs.Root.{root_of};
 ghost use Rattle.roots.specs.inside.Steps.{Scaled, Guess, Floor, Nearest, Parts, Evened, RootOfParts, RootOfBits};

@@ -9,14 +9,14 @@ use correlations::deviations::{deviations, energy, mean, wheel};
 use numbers::twelve::add_twelve;
 
 // The divisor for each energy of a profile, and whether one of them was held up.
-#[derive(Drop)]
+#[derive(Clone, Copy)]
 struct Divisors {
     values: [f32; 17],
     held_up: bool,
 }
 
 // The 24 scores by key number, and whether the chroma has no shape.
-#[derive(Drop)]
+#[derive(Clone, Copy)]
 pub struct Scored {
     pub scores: [f32; 24],
     pub shapeless: bool,

@@ -11,7 +11,7 @@ use shortening::shorten::shorten_segments;
 use timeline::segment::{Segment, put_segment};
 
 // What segments rest on beside estimates: a split's threshold, the least length, the track's duration, key, confidence.
-#[derive(Drop)]
+#[derive(Clone, Copy)]
 pub struct Track {
     pub threshold: f32,
     pub minimum: f64,

@@ -10,7 +10,7 @@ use windows::run::fill_estimates;
 use windows::span::{Span, count_windows};
 
 // How many estimates and segments there are.
-#[derive(Drop)]
+#[derive(Clone, Copy)]
 pub struct Located {
     pub estimates: usize,
     pub segments: usize,

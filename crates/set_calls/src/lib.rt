@@ -1,4 +1,6 @@
 // The calls "add a card to a set" and "take a card out", whole.
+#![tactic(auto)]
+
 ghost use Rattle.std.specs.Prelude.{◌≡◌};
 ghost use Rattle.laws.specs.Every.{same_numbers};
 ghost use Rattle.set_calls.specs.Sets.{lent_set, untrue, set_change, set_outcome, add_call, remove_call};
@@ -12,7 +14,7 @@ use set_totals::whole_set::tally;
 
 // The refusal's number, or 0, and which place was changed.
 #[repr(C)]
-#[derive(Drop)]
+#[derive(Clone, Copy)]
 pub struct SetChange {
     pub refusal: u32,
     pub place: u32,

@@ -1,4 +1,6 @@
 // The table sheet: whether it was made for this call, and whether it is well formed.
+#![tactic(auto)]
+
 ghost use Rattle.std.specs.Prelude.{◌≡◌, ◌≤◌, length};
 ghost use Rattle.std.specs.Float.{nan};
 ghost use Rattle.laws.specs.Every.{every_entry};

@@ -10,7 +10,7 @@ use mathlib.Core.Bool.{Bool, true, false, not, cond}
 use mathlib.Core.List.{List, ◌∷◌, ◌++◌}
 use lib.ListN.{length, replicate, length-append, length-drop, length-replicate}
 use lib.Seq.{length-take-le}
-use lib.Dec.{T, ltb, eqb, ltb→lt, lt→ltb, nltb→le, T_not, not_t}
+use lib.Dec.{T, ltb, eqb, ltb→lt, lt→ltb, nltb→le, T_not, not_T}
 use lib.Ieee.{Float, le}
 use lib.Ieee.Fits.{and_l, and_r, and_i, eq→eqb}
 use lib.Ieee.Bits.{is_false}
@@ -88,10 +88,10 @@ module _ (least : Float) (segments : List Segment) where
   to-join h k = and_i (ltb 1 (length segments)) (ltb (first_short least segments) (length segments)) (lt→ltb 1 (length segments) h) (lt→ltb (first_short least segments) (length segments) k)
 
   pub few-settled : length segments ≤ 1 → T (not (unsettled least segments))
-  few-settled h = not_t (unsettled least segments) (λ t. let many = several t in absurd (omega (arith, many)))
+  few-settled h = not_T (unsettled least segments) (λ t. let many = several t in absurd (omega (arith, many)))
 
   pub long-settled : length segments ≤ first_short least segments → T (not (unsettled least segments))
-  long-settled h = not_t (unsettled least segments) (λ t. let there = found t in absurd (omega (arith, there)))
+  long-settled h = not_T (unsettled least segments) (λ t. let there = found t in absurd (omega (arith, there)))
 
   pub join_short-length : T (unsettled least segments) → suc (length (join_short least segments)) ≡ length segments
   unfolding join_short
@@ -101,7 +101,7 @@ module _ (least : Float) (segments : List Segment) where
 pub none-to-join : (least : Float) (segments : List Segment) → ((i : ℕ) → i < length segments → short least (segment_at segments i) ≡ false) → T (not (unsettled least segments))
 unfolding first_short
 none-to-join least segments none =
-    not_t (unsettled least segments) (λ t.
+    not_T (unsettled least segments) (λ t.
     let there = found least segments t in
     elim (first-or-end (λ (k : ℕ). short least (segment_at segments k)) (length segments) 0) [
       | inl passes ↦ subst T (sym passes ∙ none (first_short least segments) there) tt
@@ -182,7 +182,7 @@ none_short : (least : Float) (segments : List Segment) → T (not (unsettled lea
 unfolding first_short
 none_short least segments t many i h =
     let test : ℕ → Bool = λ k. short least (segment_at segments k) in
-    let far : length segments ≤ first_short least segments = nltb→le (first_short least segments) (length segments) (not_t (ltb (first_short least segments) (length segments)) (λ u. T_not (unsettled least segments) t (to-join least segments many (ltb→lt (first_short least segments) (length segments) u)))) in
+    let far : length segments ≤ first_short least segments = nltb→le (first_short least segments) (length segments) (not_T (ltb (first_short least segments) (length segments)) (λ u. T_not (unsettled least segments) t (to-join least segments many (ltb→lt (first_short least segments) (length segments) u)))) in
     ap test (sym (zero-add i)) ∙ first-none test (length segments) 0 (rw (zero-add (length segments)) far) i h
 
 pub none-left-short : NoneLeftShort

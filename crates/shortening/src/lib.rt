@@ -1,2 +1,4 @@
 // Shortening: short segments joined to their neighbours, in lent rows.
+#![tactic(auto)]
+
 pub mod shorten;

@@ -1,1 +1,2 @@
 // Document 01's sixteen rows, held against the definitions. See specs/.
+#![tactic(auto)]

@@ -10,7 +10,7 @@ use numbers::flags::one_if;
 
 // The Rust's LocalEstimate: the window's middle in seconds, its key and how sure that is; and whether the chroma that
 // tells it has no shape.
-#[derive(Drop)]
+#[derive(Clone, Copy)]
 pub struct Estimate {
     pub centre: f64,
     pub key: Key,

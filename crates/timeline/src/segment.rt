@@ -10,7 +10,7 @@ use numbers::counts::fewer;
 use numbers::double::{larger, smaller};
 
 // The Rust's KeySegment: [start, end) in seconds, its key and how sure that is; and how many windows' estimates it rests on.
-#[derive(Drop)]
+#[derive(Clone, Copy)]
 pub struct Segment {
     pub start: f64,
     pub end: f64,

@@ -10,7 +10,7 @@ use numbers::twelve::sum_of_twelve;
 use whitening::levels::normalize_chroma;
 
 // The track's chroma, whether it has no shape, its key and the confidence in it.
-#[derive(Drop)]
+#[derive(Clone, Copy)]
 pub struct Verdict {
     pub key: Key,
     pub confidence: f32,

@@ -1,1 +1,2 @@
 // No code: laws for walks by hand, of functions over a lent slice of records. See proofs/.
+#![tactic(auto)]

@@ -1,7 +1,7 @@
 -- Each start is at least half a second after the one before it: so the start behind the budget is after the longest duration, and one that is not after it grows.
 use Rattle.std.proofs.Common.{◌≡◌, ℕ, ◌+◌, ◌-◌, ◌*◌, ◌^◌, ◌<◌, ◌≤◌, Bool, true, false, not, T, sym, refl, ap, ◌∙◌, subst, inl, inr, zero-add, arith, lit<, lit≤, T_not}
 use borrow.Author.Tests.{not-false}
-use lib.Dec.{not_t}
+use lib.Dec.{not_T}
 use lib.Ieee.{Float, binary64, add, lt, le, round}
 use lib.Ieee.Scale.{round_same}
 use Rattle.laws.specs.Values.{plus_zero, clear}
@@ -80,7 +80,7 @@ module _ (s : Span) (seconds : ℕ) (spread : Spread s seconds) where
       let end = add binary64 start s.window in
       let behind = parts binary64 1 (budget_for seconds) in
       let after : T (le behind end) = le_trans behind start end (starts-spread s seconds (budget_for seconds) spread (omega arith)) (forward (budget_for seconds)) in
-      same_test (not (le end s.duration)) true (λ _. tt) (λ _. not_t (le end s.duration) (λ (inside : T (le end s.duration)).
+      same_test (not (le end s.duration)) true (λ _. tt) (λ _. not_T (le end s.duration) (λ (inside : T (le end s.duration)).
       lt_not_le (parts binary64 0 seconds) behind (half-after seconds spread.exact) (le_trans behind end (parts binary64 0 seconds) after (le_trans end s.duration (parts binary64 0 seconds) inside spread.duration))))
 
 -- the loop's own test lets each window's pass begin

@@ -7,7 +7,7 @@ use calls::{LONGEST_TRACK, Settings};
 use conversions::widen;
 
 // A window's length, the hop to the next one and the track's duration, in seconds.
-#[derive(Drop)]
+#[derive(Clone, Copy)]
 pub struct Span {
     pub window: f64,
     pub hop: f64,
