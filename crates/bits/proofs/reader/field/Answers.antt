@@ -1,0 +1,6 @@
+-- A shift drops the bits behind the field, a mask those before it.
+use borrow.Author.Rules.{rules}
+use Rattle.bits.proofs.reader.field.Goals as goal
+
+pub returns : goal.returns
+returns c = c.low_bits.ensures

@@ -1,0 +1,15 @@
+-- The loop's invariant: `seen` has the bits of the first k bytes.
+use mathlib.Core.Path.{◌≡◌, refl, subst}
+use Prim.Native.Nat.{ℕ, ◌+◌, ◌-◌, ◌*◌, ◌≤◌}
+use native.Mathlib.Omega.{arith}
+use lib.Dec.{lit<}
+use Rattle.bits.specs.Bits.{bits_of, bits_of_bytes, HasBits}
+use Rattle.bits.proofs.Digits.{shift_fits}
+use Rattle.bits.proofs.Fields.{window, window_more}
+use Rattle.bits.proofs.reader.joined_bytes.Given as goal
+
+abbrev pub invariant-loop-k : goal.invariant-loop-k
+invariant-loop-k l = (l.k ≤ l.count) × HasBits (l.k * 8) l.seen (window l.bytes l.first l.k)
+
+abbrev pub decreases-loop-k : goal.decreases-loop-k
+decreases-loop-k l = l.count - l.k

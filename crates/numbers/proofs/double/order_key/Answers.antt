@@ -1,0 +1,24 @@
+-- Each return is the key of one kind of value.
+use borrow.Author.Rules.{rules}
+use mathlib.Core.Path.{sym, subst}
+use native.Mathlib.Omega.{arith}
+use lib.Dec.{T}
+use lib.Ieee.{binary64}
+use lib.Ieee.Bits.{to_bits-lt}
+use Rattle.numbers.proofs.Tests.{number, key-of-nan, key-of-plus, key-of-minus}
+use Rattle.numbers.proofs.double.order_key.Goals as goal
+
+pub returns-then-is_nan : goal.returns-then-is_nan
+returns-then-is_nan c = key-of-nan binary64 c.args.x c.is_nan.ensures c.if-is_nan.true
+
+pub float_to_bits-bits : goal.float_to_bits-bits
+float_to_bits-bits c = number c.args.x c.is_nan.ensures c.if-is_nan.false
+
+pub overflow_sub-result : goal.overflow_sub-result
+overflow_sub-result c = omega (arith, to_bits-lt binary64 _ (subst T (sym c.well_formed.0.1) tt))
+
+pub returns-then-bits-lt9223372036854775808 : goal.returns-then-bits-lt9223372036854775808
+returns-then-bits-lt9223372036854775808 c = key-of-plus binary64 c.args.x c.is_nan.ensures c.if-is_nan.false c.if-bits-lt9223372036854775808.true
+
+pub returns-else-bits-lt9223372036854775808 : goal.returns-else-bits-lt9223372036854775808
+returns-else-bits-lt9223372036854775808 c = key-of-minus binary64 c.args.x c.is_nan.ensures c.if-is_nan.false c.if-bits-lt9223372036854775808.false
