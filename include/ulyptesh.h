@@ -5,8 +5,8 @@
    (neither flush to zero nor denormals are zero). A program starts so, and a thread starts as the one that made it was.
    Audio hosts often set flush to zero on their audio threads, and -ffast-math may set it for a whole program: whoever
    sets it must reset it around a call. The library neither reads nor sets it. ulyptesh_read_card,
-   ulyptesh_write_packed_card, ulyptesh_mend_card, ulyptesh_add_card and ulyptesh_remove_card use no floats and hold in
-   any floating-point environment.
+   ulyptesh_write_packed_card, ulyptesh_add_card and ulyptesh_remove_card use no floats and hold in any floating-point
+   environment.
 
    The library allocates nothing, keeps no pointer and has no state. A slice is a pointer and a count of entries, and
    may be NULL where the count is 0. A slice that is written to overlaps no other, and the answer overlaps no slice. A
@@ -77,8 +77,8 @@ extern "C" {
 #define ULYPTESH_SUMMARY_WITHOUT_KEY 25
 
 /* Why a call refuses. The first of 1, 2, 3, 13, 4, 5, 6, 7 and 8 that applies is answered, in this order; where a card
-   is read the first of 20 to 24, where one is mended the first of 40 to 44, and where a set is changed the first of 33,
-   20, 21, 22, 23, 30, 31 and 32. All but 9 write nothing but the answer. Numbers that are missing are not given. */
+   is read the first of 20 to 24, and where a set is changed the first of 33, 20, 21, 22, 23, 30, 31 and 32. All but 9
+   write nothing but the answer. Numbers that are missing are not given. */
 typedef enum UlypteshRefusal {
     /* not refused; a track that tells no key has this too, with key 24 */
     ULYPTESH_DONE = 0,
@@ -126,17 +126,7 @@ typedef enum UlypteshRefusal {
     ULYPTESH_NO_SUCH_CARD = 32,
     /* sets: the set or the summary has another size, a place is neither free nor a card with zeros behind it, or the
        summary is not what the set's cards give */
-    ULYPTESH_SET_NOT_TRUE = 33,
-    /* mend card: under 7 bytes */
-    ULYPTESH_MEND_TOO_SHORT = 40,
-    /* mend card: the layout is neither 1 nor 2 */
-    ULYPTESH_MEND_UNKNOWN_LAYOUT = 41,
-    /* mend card: key, DSP key or confidence break a card rule */
-    ULYPTESH_MEND_KEY_BROKEN = 42,
-    /* mend card: there is a key, and no good segment */
-    ULYPTESH_MEND_NO_SEGMENT = 43,
-    /* mend card: the room is smaller than the mended card */
-    ULYPTESH_MEND_ROOM_TOO_SMALL = 44
+    ULYPTESH_SET_NOT_TRUE = 33
 } UlypteshRefusal;
 
 /* How the Goertzel magnitudes of a frame's notes are worked out. Both engines give the same numbers, bit for bit, so
@@ -228,15 +218,6 @@ typedef struct UlypteshCardRead {
     uint32_t confidence; /* of the key, in thousandths */
     uint64_t segments; /* how many rows are written */
 } UlypteshCardRead;
-
-/* What was kept of a card. Refused: all but the refusal 0. */
-typedef struct UlypteshCardMended {
-    uint32_t refusal;
-    uint32_t alternate_went; /* 1 where the alternate was dropped, or a coverage without one; else 0 */
-    uint64_t kept; /* segments on the mended card */
-    uint64_t claimed; /* segments that the old count claimed */
-    size_t length; /* bytes of the mended card */
-} UlypteshCardMended;
 
 /* place: the place of the set that was changed, from 0; 0 where the call is refused. */
 typedef struct UlypteshSetChange {
@@ -338,17 +319,6 @@ UlypteshWritten ulyptesh_write_packed_card(
     const uint16_t *confidences, size_t confidence_count, /* as many; in thousandths */
     uint8_t *bytes, size_t byte_count); /* ULYPTESH_CARD_BYTES of the segments; the card, from the front */
 
-/* Mends a key card that was cut short or damaged. It keeps the key, and from the front as many segments as are good in
-   a row, of those that the old count claims and of which every bit is there: a good one ends after the one before it,
-   within its layout's limit, and has a key and at most 1,000 thousandths. A first segment that ends at 0 is kept alone.
-   An alternate goes with its coverage where either breaks a card rule. Count and filler are written anew, in layout 1
-   where that holds the card. What is written can always be read; a card that can be read comes back with the same
-   bytes, all segments kept and the alternate too. */
-UlypteshCardMended *ulyptesh_mend_card(
-    UlypteshCardMended *answer, /* written whole */
-    const uint8_t *bytes, size_t byte_count, /* what is left of the card; bytes behind it do no harm */
-    uint8_t *room, size_t room_count); /* as many as the mended card, 7 to 21,506; the card, from the front */
-
 /* Puts a card into the lowest free place of a set, and its numbers into the summary: each segment's milliseconds count
    for its key. A card that is there already is put there once more. Each call on a set first reads all of it and works
    its summary out afresh, so whoever kept the two need not be trusted: where they differ, that is 33. After a call that
@@ -379,7 +349,6 @@ ULYPTESH_IS_OF(UlypteshWritten, 16);
 ULYPTESH_IS_OF(UlypteshFramesResult, 24);
 ULYPTESH_IS_OF(UlypteshAnalyseResult, 112);
 ULYPTESH_IS_OF(UlypteshCardRead, 32);
-ULYPTESH_IS_OF(UlypteshCardMended, 32);
 ULYPTESH_IS_OF(UlypteshSetChange, 8);
 #undef ULYPTESH_IS_OF
 

@@ -62,8 +62,8 @@ fn with_length(sum: f64, segment: Segment) -> f64
 
 // All segments' lengths, summed in order from -0.
 fn total_seconds(count: usize, starts: &[f64], ends: &[f64], keys: &[u8]) -> f64
-    requires { Stretched (lent_stretches starts ends keys) count }
-    ensures { result ≡ total_of (stretches_in (lent_stretches starts.entry ends.entry keys.entry) count) }
+    requires { Stretched (lent_stretches starts.now ends.now keys.now) count }
+    ensures { result ≡ total_of (stretches_in (lent_stretches starts.now ends.now keys.now) count) }
 {
     let mut sum = -0.0;
     let mut i = 0;
@@ -78,8 +78,8 @@ fn total_seconds(count: usize, starts: &[f64], ends: &[f64], keys: &[u8]) -> f64
 // Notes each lasting segment's seconds, and its key where that is first met; the reported key counts
 // as met before all others.
 fn note_segments(reported: u8, count: usize, starts: &[f64], ends: &[f64], keys: &[u8]) -> Noted
-    requires { (reported < 24) × Stretched (lent_stretches starts ends keys) count }
-    ensures { result ≡ noted_of reported (stretches_in (lent_stretches starts.entry ends.entry keys.entry) count) }
+    requires { (reported < 24) × Stretched (lent_stretches starts.now ends.now keys.now) count }
+    ensures { result ≡ noted_of reported (stretches_in (lent_stretches starts.now ends.now keys.now) count) }
 {
     let mut sums = [0.0; 24];
     let mut order = [0; 24];
@@ -166,8 +166,8 @@ pub fn alternate_key(
     ends: &[f64],
     keys: &[u8],
 ) -> Alternate
-    requires { Stretched (lent_stretches starts ends keys) count }
-    ensures { result ≡ alternate_of (key_number reported) threshold (stretches_in (lent_stretches starts.entry ends.entry keys.entry) count) }
+    requires { Stretched (lent_stretches starts.now ends.now keys.now) count }
+    ensures { result ≡ alternate_of (key_number reported) threshold (stretches_in (lent_stretches starts.now ends.now keys.now) count) }
 {
     if (threshold <= 0.0) | (count == 0) {
         return Alternate::Nobody;

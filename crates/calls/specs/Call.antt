@@ -1,6 +1,5 @@
 -- What a call is given to read. Definitions only.
 use Rattle.std.specs.Prelude.{ℕ, ◌+◌, ◌-◌, ◌/◌, List, T, pos, Float}
-use Rattle.std.specs.Borrow.{Bor}
 use Rattle.std.specs.Float.{binary32, binary64}
 use Rattle.std.specs.Float.Ieee.{fits, of_int, div}
 use Rattle.calls.specs.declared.Settings.{Settings}
@@ -23,14 +22,14 @@ pub record Call : Type 0 where
   pub sheet : Sheet
 
 -- a sheet as a contract has it: what the references refer to
-abbrev pub lent_sheet : SheetHead → Bor (List Float) → Bor (List Float) → Bor (List Float) → Bor (List ℕ) → Bor (List Float) → Bor (List Float) → Sheet
+abbrev pub lent_sheet : SheetHead → List Float → List Float → List Float → List ℕ → List Float → List Float → Sheet
 lent_sheet head window coefficients weights lengths q_coefficients q_windows =
-    record { head = head; window = window.now; goertzel_coefficients = coefficients.now; goertzel_weights = weights.now; constant_q_lengths = lengths.now; constant_q_coefficients = q_coefficients.now; constant_q_windows = q_windows.now }
+    record { head = head; window = window; goertzel_coefficients = coefficients; goertzel_weights = weights; constant_q_lengths = lengths; constant_q_coefficients = q_coefficients; constant_q_windows = q_windows }
 
 -- a call as a contract has it
-abbrev pub given : Settings → SheetHead → Bor (List Float) → Bor (List Float) → Bor (List Float) → Bor (List Float) → Bor (List ℕ) → Bor (List Float) → Bor (List Float) → Call
+abbrev pub given : Settings → SheetHead → List Float → List Float → List Float → List Float → List ℕ → List Float → List Float → Call
 given settings head samples window coefficients weights lengths q_coefficients q_windows =
-    record { settings = settings; samples = samples.now; sheet = lent_sheet head window coefficients weights lengths q_coefficients q_windows }
+    record { settings = settings; samples = samples; sheet = lent_sheet head window coefficients weights lengths q_coefficients q_windows }
 
 -- a sample's time in seconds
 unfoldable pub seconds_at : Settings → ℕ → Float

@@ -1,6 +1,5 @@
 -- What a call is lent to write: frame rows, as three slices side by side. Definitions only.
 use Rattle.std.specs.Prelude.{ℕ, List, [], ◌∷◌, length, Float}
-use Rattle.std.specs.Borrow.{Bor}
 use Rattle.laws.specs.Front.{shortest}
 
 -- a row is a frame's centre in seconds, its chroma and its energy
@@ -10,8 +9,8 @@ pub record Rows : Type 0 where
   pub energies : List Float
 
 -- as a contract has it: what the references refer to
-abbrev pub lent_rows : Bor (List Float) → Bor (List (List Float)) → Bor (List Float) → Rows
-lent_rows centres values energies = record { centres = centres.now; values = values.now; energies = energies.now }
+abbrev pub lent_rows : List Float → List (List Float) → List Float → Rows
+lent_rows centres values energies = record { centres = centres; values = values; energies = energies }
 
 -- how many rows there is room for
 abbrev pub room_in : Rows → ℕ

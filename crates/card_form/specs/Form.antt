@@ -85,13 +85,9 @@ segment_field l bits i k = get_or (fields_of (segment_widths l) (drop (segment_p
 unfoldable pub segment_on : Layout → List ℕ → ℕ → Segment
 segment_on l bits i = let at = segment_field l bits i in record { end = at 0; key = at 1; confidence = at 2 }
 
--- a header with the first n segments
-abbrev pub with_first : Layout → List ℕ → Header → ℕ → Meaning
-with_first l bits h n = record { header = h; segments = list (segment_on l bits) n }
-
 -- all that it says
 abbrev pub meaning_on : Layout → List ℕ → Meaning
-meaning_on l bits = with_first l bits (header_on l bits) (count_on l bits)
+meaning_on l bits = record { header = header_on l bits; segments = list (segment_on l bits) (count_on l bits) }
 
 -- a bit behind the last segment is set
 unfoldable pub filler_set : Layout → List ℕ → Bool

@@ -1,6 +1,5 @@
 -- A card's segments in lent rows: four slices of packed numbers side by side. Definitions only.
 use Rattle.std.specs.Prelude.{ℕ, Bool, not, ◌||◌, cond, List, [], ◌∷◌, map, eqb, ltb, length, get_or}
-use Rattle.std.specs.Borrow.{Bor}
 use Rattle.laws.specs.Front.{front, list, shortest}
 use Rattle.laws.specs.Table.{any_of}
 use Rattle.card.specs.Layout.{Meaning}
@@ -17,8 +16,8 @@ pub record CardRows : Type 0 where
   pub confidences : List ℕ
 
 -- as a contract has it: what the references refer to
-abbrev pub lent_card_rows : Bor (List ℕ) → Bor (List ℕ) → Bor (List ℕ) → Bor (List ℕ) → CardRows
-lent_card_rows starts ends keys confidences = record { starts = starts.now; ends = ends.now; keys = keys.now; confidences = confidences.now }
+abbrev pub lent_card_rows : List ℕ → List ℕ → List ℕ → List ℕ → CardRows
+lent_card_rows starts ends keys confidences = record { starts = starts; ends = ends; keys = keys; confidences = confidences }
 
 -- how many segments there is room for
 abbrev pub rows_in : CardRows → ℕ

@@ -17,7 +17,7 @@ use Rattle.card.specs.declared.layout.Layout.{Layout}
 use Rattle.card.specs.declared.layout.FoundLayout.{FoundLayout}
 use Rattle.card.specs.declared.layout.FoundLayout.TheVariants.{Found, Missing}
 use Rattle.card.proofs.Fits.{CardFits, card-fits}
-use Rattle.card.proofs.Known.{Sound, known-sound, found_number}
+use Rattle.card.proofs.Known.{Sound, known-sound}
 use Rattle.card.proofs.Chosen.{Needed, some-layout, chosen-needed, needed-chosen}
 use Rattle.card_form.specs.Form.{card_bytes, card_size, number_on, count_on, segment_on, meaning_on, filler_set}
 use Rattle.card_form.proofs.Lengths.{length-card}
@@ -29,6 +29,18 @@ use Rattle.card_reader.specs.declared.judge.CardJudged.{CardJudged}
 use Rattle.card_reader.specs.declared.judge.CardJudged.TheVariants.{Refused, Readable}
 use Rattle.card_reader.proofs.Ready.{ready}
 use Rattle.card_inverse.specs.Inverse.{IsCardOf, ReadIsWritten, WrittenIsRead}
+
+-- a layout that is found under a number has it
+found_number : (ls : List Layout) (number : ℕ) {l : Layout} → numbered_in ls number ≡ Found l → l.number ≡ number
+found_number [] number e = absurd (nothing e)
+  where
+    nothing : {l : Layout} → Missing ≡ Found l → ⊥
+    nothing q = let z : ◌≡◌ {A = ℕ} 0 1 = cc in omega arith
+found_number (k ∷ ks) number {l} e = either (eqb number k.number) refl e (λ q. found_number ks number q)
+  where
+    either : (b : Bool) → eqb number k.number ≡ b → cond b (Found k) (numbered_in ks number) ≡ Found l → (numbered_in ks number ≡ Found l → l.number ≡ number) → l.number ≡ number
+    either true t q more = let same : k ≡ l = cc in ap (λ (x : Layout). x.number) (sym same) ∙ sym (eqb-true number k.number t)
+    either false t q more = more q
 
 -- ---- what is read is written
 read-is-card : (bytes : List ℕ) → AllBytes bytes → (rows : ℕ) (m : Meaning) (j : CardJudged) → judged_of bytes rows ≡ j → read_as (bits_of_bytes bytes) j ≡ says m → IsCardOf m bytes × (length m.segments ≤ rows)

@@ -4,11 +4,11 @@ ghost use Rattle.laws.specs.Front.{list};
 ghost use Rattle.bits.specs.Bits.{bits_of_bytes};
 ghost use Rattle.card.specs.Layout.{LayoutFits};
 ghost use Rattle.card.specs.Rules.{first_broken, card_broken, needless};
-ghost use Rattle.card_form.specs.Form.{segment_place, segment_on, with_first};
+ghost use Rattle.card_form.specs.Form.{segment_place, count_on, segment_on, meaning_on};
 ghost use Rattle.card_reader.specs.Reading.{judged_of};
 
 use crate::on_card::{count_on, filler_set, header_on, number_on, segment_on};
-use card::layout::{Header, Layout, is_found, layout_1, layout_numbered, layout_or_1};
+use card::layout::{Layout, is_found, layout_1, layout_numbered, layout_or_1};
 use card::rules::{header_broken, segment_broken};
 use card_form::card_size;
 
@@ -20,7 +20,7 @@ pub enum CardJudged {
 }
 
 // The first of `count` segments that breaks a rule of the layout `rules`, or their count.
-pub fn first_broken(bytes: &[u8], l: Layout, rules: Layout, count: usize) -> usize
+fn first_broken(bytes: &[u8], l: Layout, rules: Layout, count: usize) -> usize
     requires { LayoutFits l × (count < 2 ^ 32) × (segment_place l count ≤ length bytes.now * 8) }
     ensures { result ≡ first_broken rules (list (segment_on l (bits_of_bytes bytes.now)) count) }
 {
@@ -39,26 +39,26 @@ pub fn first_broken(bytes: &[u8], l: Layout, rules: Layout, count: usize) -> usi
     }
 }
 
-// Whether a header with the first `count` segments breaks a rule of the layout `rules`.
-fn is_broken(bytes: &[u8], l: Layout, rules: Layout, h: Header, count: usize) -> bool
-    requires { LayoutFits l × (count < 2 ^ 32) × (segment_place l count ≤ length bytes.now * 8) }
-    ensures { result ≡ card_broken rules (with_first l (bits_of_bytes bytes.now) h count) }
+// Whether what a card of `count` segments says breaks a rule of the layout `rules`.
+fn is_broken(bytes: &[u8], l: Layout, rules: Layout, count: usize) -> bool
+    requires { LayoutFits l × (count < 2 ^ 32) × (count ≡ count_on l (bits_of_bytes bytes.now)) × (segment_place l count ≤ length bytes.now * 8) }
+    ensures { result ≡ card_broken rules (meaning_on l (bits_of_bytes bytes.now)) }
 {
-    if header_broken(rules, h, count) {
+    if header_broken(rules, header_on(bytes, l), count) {
         return true;
     }
     first_broken(bytes, l, rules, count) < count
 }
 
-// Whether another layout than 1 has a header and `count` segments that layout 1 holds.
-pub fn is_needless(bytes: &[u8], l: Layout, h: Header, count: usize) -> bool
-    requires { LayoutFits l × (count < 2 ^ 32) × (segment_place l count ≤ length bytes.now * 8) }
-    ensures { result ≡ needless l (with_first l (bits_of_bytes bytes.now) h count) }
+// Whether a card of another layout than 1 says what layout 1 holds.
+fn is_needless(bytes: &[u8], l: Layout, count: usize) -> bool
+    requires { LayoutFits l × (count < 2 ^ 32) × (count ≡ count_on l (bits_of_bytes bytes.now)) × (segment_place l count ≤ length bytes.now * 8) }
+    ensures { result ≡ needless l (meaning_on l (bits_of_bytes bytes.now)) }
 {
     if l.number == 1 {
         return false;
     }
-    !is_broken(bytes, l, layout_1(), h, count)
+    !is_broken(bytes, l, layout_1(), count)
 }
 
 // What the table says of bytes, with so many rows for segments.
@@ -79,11 +79,10 @@ pub fn judge_card(bytes: &[u8], rows: usize) -> CardJudged
     if !(bytes.len() == card_size(l, count)) {
         return CardJudged::Refused(20);
     }
-    let h = header_on(bytes, l);
-    if is_broken(bytes, l, l, h, count) | filler_set(bytes, l, count) {
+    if is_broken(bytes, l, l, count) | filler_set(bytes, l, count) {
         return CardJudged::Refused(22);
     }
-    if is_needless(bytes, l, h, count) {
+    if is_needless(bytes, l, count) {
         return CardJudged::Refused(23);
     }
     if rows < count {

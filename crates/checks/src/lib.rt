@@ -75,7 +75,7 @@ pub fn check(
     few: bool,
     room: usize,
 ) -> Checked
-    ensures { result ≡ checked (given settings head samples.entry window.entry coefficients.entry weights.entry lengths.entry qcoefficients.entry qwindows.entry) hasty (few || ltb room (positions_of settings (length samples.now))) }
+    ensures { result ≡ checked (given settings head samples.now window.now coefficients.now weights.now lengths.now qcoefficients.now qwindows.now) hasty (few || ltb room (positions_of settings (length samples.now))) }
 {
     if settings.rate > 192_000 {
         return Checked::Refused(1);

@@ -86,7 +86,7 @@ module _ (m : ℕ) (e : ℤ) (few : m < 2 ^ 24) (part : T (not (eqb (m * up e % 
         le_of_values y r p 1 q 1 (lit≤ tt) (lit≤ tt) vy v (by_one p q ((le-div_iff_mul-le (down_pos e)).1 (le_trans under (le_of_eq (mul-one (m * up e))))))
 
     plus-sign : T (fits binary32 r) → LargestWhole extent r
-    plus-sign h = record { held = h; is_whole = whole-of-value r false q v; not_above = plus-not-above; largest = plus-largest; sign = (clear-is r (nonneg→clear r (value-nonneg r q 1 v))).1 }
+    plus-sign h = record { held = h; whole = whole-of-value r false q v; not_above = plus-not-above; largest = plus-largest; sign = (clear-is r (nonneg→clear r (value-nonneg r q 1 v))).1 }
 
   -- ---- the minus sign: -(q + 1), whose size is z
   module _ (z : Float) (v : HasValue z false (suc q) 1) where
@@ -114,7 +114,7 @@ module _ (m : ℕ) (e : ℤ) (few : m < 2 ^ 24) (part : T (not (eqb (m * up e % 
 
     minus-sign : T (fits binary32 z) → LargestWhole (neg extent) (neg z)
     unfolding neg
-    minus-sign h = record { held = neg-fits binary32 z h; is_whole = whole-of-neg z (suc q) v; not_above = le-neg extent z size-under; largest = minus-largest; sign = flipped z (suc q) 1 v }
+    minus-sign h = record { held = neg-fits binary32 z h; whole = whole-of-neg z (suc q) v; not_above = le-neg extent z size-under; largest = minus-largest; sign = flipped z (suc q) 1 v }
 
 -- ---- the theorem
 floor-largest : (x : Float) → T (fits binary32 x) → T (finite x) → LargestWhole x (floored x)
@@ -123,7 +123,7 @@ floor-largest nan h f = absurd f
 floor-largest (inf s) h f = absurd f
 floor-largest (fin s m e) h f =
     by-test (LargestWhole (fin s m e)) (eqb (m * up e % down e) 0)
-    (λ w. record { held = h; is_whole = w; not_above = le_refl (fin s m e) tt; largest = λ y k l. l; sign = refl })
+    (λ w. record { held = h; whole = w; not_above = le_refl (fin s m e) tt; largest = λ y k l. l; sign = refl })
     (λ n. by_sign s n)
   where
     by_sign : (t : Bool) → T (not (eqb (m * up e % down e) 0)) → LargestWhole (fin t m e) (of_int binary32 (down_to t (m * up e / down e)))
@@ -142,5 +142,5 @@ floor-is-largest x h f =
     let l = floor-largest x h f in
     record {
       largest_whole = l;
-      only = λ s p. same_rank binary32 s (floored x) p.held l.held (p.sign ∙ sym l.sign) (l.largest s p.is_whole p.not_above) (p.largest (floored x) l.is_whole l.not_above);
+      only = λ s p. same_rank binary32 s (floored x) p.held l.held (p.sign ∙ sym l.sign) (l.largest s p.whole p.not_above) (p.largest (floored x) l.whole l.not_above);
     }

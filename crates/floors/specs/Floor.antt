@@ -25,7 +25,7 @@ is_whole (fin s m e) = m * up e % down e == 0
 -- r is a binary32 value, the largest whole number that is not above x, and has x's sign: so a zero has it too
 pub record LargestWhole (x r : Float) : Type 0 where
   pub held : T (fits binary32 r)
-  pub is_whole : T (is_whole r)
+  pub whole : T (is_whole r)
   pub not_above : T (le r x)
   pub largest : (y : Float) → T (is_whole y) → T (le y x) → T (le y r)
   pub sign : negative r ≡ negative x

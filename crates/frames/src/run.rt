@@ -19,7 +19,7 @@ pub enum Filled {
 // A row goes into place n of the lent rows.
 fn put_row(row: Row, n: usize, centres: &mut [f64], values: &mut [[f32; 12]], energies: &mut [f32])
     requires { (n < length centres.old) × (n < length values.old) × (n < length energies.old) }
-    ensures { lent_rows centres.exit values.exit energies.exit ≡ put row n (lent_rows centres.entry values.entry energies.entry) }
+    ensures { lent_rows centres.new values.new energies.new ≡ put row n (lent_rows centres.old values.old energies.old) }
 {
     let chroma = row.values;
     centres[n] = row.centre;
@@ -43,8 +43,8 @@ pub fn fill_rows(
     values: &mut [[f32; 12]],
     energies: &mut [f32],
 ) -> Filled
-    requires { Ready (given settings head samples window coefficients weights lengths qcoefficients qwindows) (lent_rows centres values energies) positions }
-    ensures { ran result (lent_rows centres.exit values.exit energies.exit) ≡ run_of (given settings head samples.entry window.entry coefficients.entry weights.entry lengths.entry qcoefficients.entry qwindows.entry) positions (lent_rows centres.entry values.entry energies.entry) }
+    requires { Ready (given settings head samples.now window.now coefficients.now weights.now lengths.now qcoefficients.now qwindows.now) (lent_rows centres.old values.old energies.old) positions }
+    ensures { ran result (lent_rows centres.new values.new energies.new) ≡ run_of (given settings head samples.now window.now coefficients.now weights.now lengths.now qcoefficients.now qwindows.now) positions (lent_rows centres.old values.old energies.old) }
 {
     let frame = settings.frame_size;
     let hop = settings.hop_size;

@@ -65,7 +65,7 @@ pub fn frames_only(
     values: &mut [[f32; 12]],
     energies: &mut [f32],
 ) -> FramesResult
-    ensures { frames_outcome result (lent_rows centres.exit values.exit energies.exit) ≡ frames_only (given settings head samples.entry window.entry coefficients.entry weights.entry lengths.entry qcoefficients.entry qwindows.entry) (lent_rows centres.entry values.entry energies.entry) }
+    ensures { frames_outcome result (lent_rows centres.new values.new energies.new) ≡ frames_only (given settings head samples.now window.now coefficients.now weights.now lengths.now qcoefficients.now qwindows.now) (lent_rows centres.old values.old energies.old) }
 {
     let room = fewest(centres.len(), values.len(), energies.len());
     match check(

@@ -84,8 +84,8 @@ fn write_group(
     confidences: &mut [f32],
     counts: &mut [u32],
 )
-    requires { (group.from < group.to) × (group.to ≤ length numbers.now) × (group.to ≤ length certainties.now) × (group.to < 2 ^ 32) × Numbered numbers.now group.to × Room (lent_segments starts ends keys confidences counts) (n + 1) }
-    ensures { lent_segments starts.exit ends.exit keys.exit confidences.exit counts.exit ≡ put_segment (group_in group numbers.now certainties.now) n (lent_segments starts.entry ends.entry keys.entry confidences.entry counts.entry) }
+    requires { (group.from < group.to) × (group.to ≤ length numbers.now) × (group.to ≤ length certainties.now) × (group.to < 2 ^ 32) × Numbered numbers.now group.to × Room (lent_segments starts.old ends.old keys.old confidences.old counts.old) (n + 1) }
+    ensures { lent_segments starts.new ends.new keys.new confidences.new counts.new ≡ put_segment (group_in group numbers.now certainties.now) n (lent_segments starts.old ends.old keys.old confidences.old counts.old) }
 {
     let from = group.from;
     let to = group.to;
@@ -112,8 +112,8 @@ pub fn cut_groups(
     confidences: &mut [f32],
     counts: &mut [u32],
 ) -> usize
-    requires { (0 < found) × Found (lent_columns middles numbers certainties) found × Room (lent_segments starts ends keys confidences counts) found }
-    ensures { filled_rows result (lent_segments starts.exit ends.exit keys.exit confidences.exit counts.exit) ≡ standing (groups_of threshold duration (estimates_in (lent_columns middles.entry numbers.entry certainties.entry) found)) (lent_segments starts.entry ends.entry keys.entry confidences.entry counts.entry) }
+    requires { (0 < found) × Found (lent_columns middles.now numbers.now certainties.now) found × Room (lent_segments starts.old ends.old keys.old confidences.old counts.old) found }
+    ensures { filled_rows result (lent_segments starts.new ends.new keys.new confidences.new counts.new) ≡ standing (groups_of threshold duration (estimates_in (lent_columns middles.now numbers.now certainties.now) found)) (lent_segments starts.old ends.old keys.old confidences.old counts.old) }
 {
     let last = found - 1;
     let mut from = 0;

@@ -20,8 +20,8 @@ fn longer_of(best: Segment, segment: Segment) -> Segment
 
 // The longest segment, the last of equals: the Rust's `longest_segment_key`.
 fn longest_segment(count: usize, starts: &[f64], ends: &[f64], keys: &[u8]) -> Segment
-    requires { (0 < count) × Stretched (lent_stretches starts ends keys) count }
-    ensures { result ≡ longest_of (stretches_in (lent_stretches starts.entry ends.entry keys.entry) count) }
+    requires { (0 < count) × Stretched (lent_stretches starts.now ends.now keys.now) count }
+    ensures { result ≡ longest_of (stretches_in (lent_stretches starts.now ends.now keys.now) count) }
 {
     let mut best = stretch_at(0, starts, ends, keys);
     let mut i = 0;
@@ -35,8 +35,8 @@ fn longest_segment(count: usize, starts: &[f64], ends: &[f64], keys: &[u8]) -> S
 
 // Of several segments the longest one's key, else the classified one.
 pub fn reported_key(classified: Key, count: usize, starts: &[f64], ends: &[f64], keys: &[u8]) -> Key
-    requires { Stretched (lent_stretches starts ends keys) count }
-    ensures { result ≡ reported_of classified (stretches_in (lent_stretches starts.entry ends.entry keys.entry) count) }
+    requires { Stretched (lent_stretches starts.now ends.now keys.now) count }
+    ensures { result ≡ reported_of classified (stretches_in (lent_stretches starts.now ends.now keys.now) count) }
 {
     if count > 1 {
         let best = longest_segment(count, starts, ends, keys);

@@ -30,8 +30,8 @@ pub fn analyse_frames(
     confidences: &mut [f32],
     counts: &mut [u32],
 ) -> AnalyseResult
-    requires { Stocked settings samples frames (lent_all centres values energies work middles numbers certainties shapeless starts ends keys confidences counts) }
-    ensures { analyse_outcome result (lent_all centres.entry values.entry energies.entry work.exit middles.exit numbers.exit certainties.exit shapeless.exit starts.exit ends.exit keys.exit confidences.exit counts.exit) ≡ loud_analysed settings samples (frames_in (lent_rows centres.entry values.entry energies.entry) frames) (lent_all centres.entry values.entry energies.entry work.entry middles.entry numbers.entry certainties.entry shapeless.entry starts.entry ends.entry keys.entry confidences.entry counts.entry) }
+    requires { Stocked settings samples frames (lent_all centres.now values.now energies.now work.old middles.old numbers.old certainties.old shapeless.old starts.old ends.old keys.old confidences.old counts.old) }
+    ensures { analyse_outcome result (lent_all centres.now values.now energies.now work.new middles.new numbers.new certainties.new shapeless.new starts.new ends.new keys.new confidences.new counts.new) ≡ loud_analysed settings samples (frames_in (lent_rows centres.now values.now energies.now) frames) (lent_all centres.now values.now energies.now work.old middles.old numbers.old certainties.old shapeless.old starts.old ends.old keys.old confidences.old counts.old) }
 {
     if frames == 0 {
         return keyless(0, 0, 0);

@@ -25,7 +25,7 @@ pub fn write_packed_card(
     confidences: &[u16],
     bytes: &mut [u8],
 ) -> Written
-    ensures { bytes_outcome result bytes.new ≡ packed_call (header_from key dsp alternate coverage confidence) (lent_card_rows starts.entry ends.entry keys.entry confidences.entry) bytes.old }
+    ensures { bytes_outcome result bytes.new ≡ packed_call (header_from key dsp alternate coverage confidence) (lent_card_rows starts.now ends.now keys.now confidences.now) bytes.old }
 {
     let h = Header {
         key: key as u64,

@@ -70,7 +70,7 @@ pub fn layout_of(
     keys: &[u8],
     confidences: &[u16],
 ) -> FoundLayout
-    ensures { result ≡ packed_layout h (lent_card_rows starts.entry ends.entry keys.entry confidences.entry) }
+    ensures { result ≡ packed_layout h (lent_card_rows starts.now ends.now keys.now confidences.now) }
 {
     let count = ends.len();
     let first = layout_1();

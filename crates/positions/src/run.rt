@@ -37,8 +37,8 @@ pub fn analyse_positions(
     confidences: &mut [f32],
     counts: &mut [u32],
 ) -> AnalyseResult
-    requires { Supplied (given settings head samples window coefficients weights lengths qcoefficients qwindows) positions (lent_all centres values energies work middles numbers certainties shapeless starts ends keys confidences counts) }
-    ensures { analyse_outcome result (lent_all centres.exit values.exit energies.exit work.exit middles.exit numbers.exit certainties.exit shapeless.exit starts.exit ends.exit keys.exit confidences.exit counts.exit) ≡ positions_analysed (given settings head samples.entry window.entry coefficients.entry weights.entry lengths.entry qcoefficients.entry qwindows.entry) positions (lent_all centres.entry values.entry energies.entry work.entry middles.entry numbers.entry certainties.entry shapeless.entry starts.entry ends.entry keys.entry confidences.entry counts.entry) }
+    requires { Supplied (given settings head samples.now window.now coefficients.now weights.now lengths.now qcoefficients.now qwindows.now) positions (lent_all centres.old values.old energies.old work.old middles.old numbers.old certainties.old shapeless.old starts.old ends.old keys.old confidences.old counts.old) }
+    ensures { analyse_outcome result (lent_all centres.new values.new energies.new work.new middles.new numbers.new certainties.new shapeless.new starts.new ends.new keys.new confidences.new counts.new) ≡ positions_analysed (given settings head samples.now window.now coefficients.now weights.now lengths.now qcoefficients.now qwindows.now) positions (lent_all centres.old values.old energies.old work.old middles.old numbers.old certainties.old shapeless.old starts.old ends.old keys.old confidences.old counts.old) }
 {
     match fill_rows(
         settings,

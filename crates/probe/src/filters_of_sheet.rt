@@ -27,7 +27,7 @@ pub extern "C" fn probe_well_formed(
     qcoefficients: &[f32],
     qwindows: &[f32],
 ) -> bool
-    ensures { result ≡ well_formed (lent_sheet head window.entry coefficients.entry weights.entry lengths.entry qcoefficients.entry qwindows.entry) }
+    ensures { result ≡ well_formed (lent_sheet head window.now coefficients.now weights.now lengths.now qcoefficients.now qwindows.now) }
 {
     sheets::well_formed(
         head,

@@ -64,7 +64,7 @@ pub extern "C" fn probe_segments(
     confidences: &mut [f32],
     counts: &mut [u32],
 ) -> ProbedSegments
-    ensures { probed result (lent_estimates middles.exit numbers.exit certainties.exit shapeless.exit) (lent_segments starts.exit ends.exit keys.exit confidences.exit counts.exit) ≡ probed_segments settings samples (probed_track settings samples key confidence) (heard_in centres.now values.now) (lent_estimates middles.entry numbers.entry certainties.entry shapeless.entry) (lent_segments starts.entry ends.entry keys.entry confidences.entry counts.entry) }
+    ensures { probed result (lent_estimates middles.new numbers.new certainties.new shapeless.new) (lent_segments starts.new ends.new keys.new confidences.new counts.new) ≡ probed_segments settings samples (probed_track settings samples key confidence) (heard_in centres.now values.now) (lent_estimates middles.old numbers.old certainties.old shapeless.old) (lent_segments starts.old ends.old keys.old confidences.old counts.old) }
 {
     let span = span_of(settings, samples);
     let asked = rows_asked(span);

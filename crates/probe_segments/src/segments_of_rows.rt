@@ -80,7 +80,7 @@ pub extern "C" fn probe_shorten(
     confidences: &mut [f32],
     counts: &mut [u32],
 ) -> usize
-    ensures { filled_rows result (lent_segments starts.exit ends.exit keys.exit confidences.exit counts.exit) ≡ probed_shorten least (lent_segments starts.entry ends.entry keys.entry confidences.entry counts.entry) }
+    ensures { filled_rows result (lent_segments starts.new ends.new keys.new confidences.new counts.new) ≡ probed_shorten least (lent_segments starts.old ends.old keys.old confidences.old counts.old) }
 {
     let count = segment_room(starts, ends, keys, confidences, counts);
     if !can_shorten(keys, counts, count) {
@@ -91,7 +91,7 @@ pub extern "C" fn probe_shorten(
 
 // How many rows three columns have.
 fn stretch_room(starts: &[f64], ends: &[f64], keys: &[u8]) -> usize
-    ensures { result ≡ stretch_room (lent_stretches starts.entry ends.entry keys.entry) }
+    ensures { result ≡ stretch_room (lent_stretches starts.now ends.now keys.now) }
 {
     fewer(starts.len(), fewer(ends.len(), keys.len()))
 }
@@ -99,7 +99,7 @@ fn stretch_room(starts: &[f64], ends: &[f64], keys: &[u8]) -> usize
 // The reported key of all rows.
 #[unsafe(no_mangle)]
 pub extern "C" fn probe_reported(classified: u8, starts: &[f64], ends: &[f64], keys: &[u8]) -> u8
-    ensures { result ≡ probed_reported classified (lent_stretches starts.entry ends.entry keys.entry) }
+    ensures { result ≡ probed_reported classified (lent_stretches starts.now ends.now keys.now) }
 {
     let count = stretch_room(starts, ends, keys);
     let key = stored_key(classified);
@@ -129,7 +129,7 @@ pub extern "C" fn probe_alternate(
     ends: &[f64],
     keys: &[u8],
 ) -> ProbedAlternate
-    ensures { result ≡ probed_alternate reported threshold (lent_stretches starts.entry ends.entry keys.entry) }
+    ensures { result ≡ probed_alternate reported threshold (lent_stretches starts.now ends.now keys.now) }
 {
     let count = stretch_room(starts, ends, keys);
     let key = stored_key(reported);
@@ -179,7 +179,7 @@ pub extern "C" fn probe_cut(
     confidences: &mut [f32],
     counts: &mut [u32],
 ) -> usize
-    ensures { filled_rows result (lent_segments starts.exit ends.exit keys.exit confidences.exit counts.exit) ≡ probed_cut (track_of threshold minimum duration key confidence) (lent_columns middles.entry numbers.entry certainties.entry) (lent_segments starts.entry ends.entry keys.entry confidences.entry counts.entry) }
+    ensures { filled_rows result (lent_segments starts.new ends.new keys.new confidences.new counts.new) ≡ probed_cut (track_of threshold minimum duration key confidence) (lent_columns middles.now numbers.now certainties.now) (lent_segments starts.old ends.old keys.old confidences.old counts.old) }
 {
     let found = numbers.len();
     let room = segment_room(starts, ends, keys, confidences, counts);

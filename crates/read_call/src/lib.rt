@@ -69,8 +69,8 @@ fn read_segments(
     keys: &mut [u8],
     confidences: &mut [u16],
 )
-    requires { CanRead bytes.now l count (lent_card_rows starts ends keys confidences) }
-    ensures { lent_card_rows starts.exit ends.exit keys.exit confidences.exit ≡ holding_card (list (segment_on l (bits_of_bytes bytes.now)) count) (lent_card_rows starts.entry ends.entry keys.entry confidences.entry) }
+    requires { CanRead bytes.now l count (lent_card_rows starts.old ends.old keys.old confidences.old) }
+    ensures { lent_card_rows starts.new ends.new keys.new confidences.new ≡ holding_card (list (segment_on l (bits_of_bytes bytes.now)) count) (lent_card_rows starts.old ends.old keys.old confidences.old) }
 {
     let mut previous = 0;
     let mut i = 0;
@@ -94,7 +94,7 @@ pub fn read_card(
     keys: &mut [u8],
     confidences: &mut [u16],
 ) -> CardRead
-    ensures { read_outcome result (lent_card_rows starts.exit ends.exit keys.exit confidences.exit) ≡ read_call bytes.now (lent_card_rows starts.entry ends.entry keys.entry confidences.entry) }
+    ensures { read_outcome result (lent_card_rows starts.new ends.new keys.new confidences.new) ≡ read_call bytes.now (lent_card_rows starts.old ends.old keys.old confidences.old) }
 {
     let rows = fewer(
         starts.len(),

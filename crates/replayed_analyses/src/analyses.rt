@@ -25,7 +25,7 @@ fn call_agrees(
     qwindows: &[f32],
 ) -> bool
     requires { start + 2424 ≤ length bytes.now }
-    ensures { result ≡ same_outcome bytes.now start (analysed (given settings head samples.entry window.entry coefficients.entry weights.entry lengths.entry qcoefficients.entry qwindows.entry) blank) }
+    ensures { result ≡ same_outcome bytes.now start (analysed (given settings head samples.now window.now coefficients.now weights.now lengths.now qcoefficients.now qwindows.now) blank) }
 {
     let mut centres = [0.0; 8];
     let mut values = [[0.0; 12]; 8];

@@ -42,8 +42,8 @@ fn name_keys(
     ends: &[f64],
     keys: &[u8],
 ) -> AnalyseResult
-    requires { Stretched (lent_stretches starts ends keys) counts.segments }
-    ensures { result ≡ named_in threshold verdict counts (stretches_in (lent_stretches starts.entry ends.entry keys.entry) counts.segments) }
+    requires { Stretched (lent_stretches starts.now ends.now keys.now) counts.segments }
+    ensures { result ≡ named_in threshold verdict counts (stretches_in (lent_stretches starts.now ends.now keys.now) counts.segments) }
 {
     let classified = verdict.key;
     let segments = counts.segments;
@@ -70,8 +70,8 @@ pub fn report_track(
     confidences: &mut [f32],
     counts: &mut [u32],
 ) -> AnalyseResult
-    requires { Prepared (span_of settings samples) (heard frames centres.now values.now) (lent_estimates middles numbers certainties shapeless) (lent_segments starts ends keys confidences counts) }
-    ensures { reported result (lent_estimates middles.exit numbers.exit certainties.exit shapeless.exit) (lent_segments starts.exit ends.exit keys.exit confidences.exit counts.exit) ≡ reported_in (report_of settings samples verdict (heard frames centres.now values.now)) (lent_estimates middles.entry numbers.entry certainties.entry shapeless.entry) (lent_segments starts.entry ends.entry keys.entry confidences.entry counts.entry) }
+    requires { Prepared (span_of settings samples) (heard frames centres.now values.now) (lent_estimates middles.old numbers.old certainties.old shapeless.old) (lent_segments starts.old ends.old keys.old confidences.old counts.old) }
+    ensures { reported result (lent_estimates middles.new numbers.new certainties.new shapeless.new) (lent_segments starts.new ends.new keys.new confidences.new counts.new) ≡ reported_in (report_of settings samples verdict (heard frames centres.now values.now)) (lent_estimates middles.old numbers.old certainties.old shapeless.old) (lent_segments starts.old ends.old keys.old confidences.old counts.old) }
 {
     let span = span_of(settings, samples);
     let track = track_of(settings, span, verdict);

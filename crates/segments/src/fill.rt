@@ -33,8 +33,8 @@ fn cut_track(
     confidences: &mut [f32],
     counts: &mut [u32],
 ) -> usize
-    requires { Found (lent_columns middles numbers certainties) found × Room (lent_segments starts ends keys confidences counts) found × Room (lent_segments starts ends keys confidences counts) 1 }
-    ensures { filled_rows result (lent_segments starts.exit ends.exit keys.exit confidences.exit counts.exit) ≡ standing (cut_of track (estimates_in (lent_columns middles.entry numbers.entry certainties.entry) found)) (lent_segments starts.entry ends.entry keys.entry confidences.entry counts.entry) }
+    requires { Found (lent_columns middles.now numbers.now certainties.now) found × Room (lent_segments starts.old ends.old keys.old confidences.old counts.old) found × Room (lent_segments starts.old ends.old keys.old confidences.old counts.old) 1 }
+    ensures { filled_rows result (lent_segments starts.new ends.new keys.new confidences.new counts.new) ≡ standing (cut_of track (estimates_in (lent_columns middles.now numbers.now certainties.now) found)) (lent_segments starts.old ends.old keys.old confidences.old counts.old) }
 {
     if found > 0 {
         return cut_groups(
@@ -76,8 +76,8 @@ pub fn fill_segments(
     confidences: &mut [f32],
     counts: &mut [u32],
 ) -> usize
-    requires { Found (lent_columns middles numbers certainties) found × Room (lent_segments starts ends keys confidences counts) found × Room (lent_segments starts ends keys confidences counts) 1 }
-    ensures { filled_rows result (lent_segments starts.exit ends.exit keys.exit confidences.exit counts.exit) ≡ filled_of track (estimates_in (lent_columns middles.entry numbers.entry certainties.entry) found) (lent_segments starts.entry ends.entry keys.entry confidences.entry counts.entry) }
+    requires { Found (lent_columns middles.now numbers.now certainties.now) found × Room (lent_segments starts.old ends.old keys.old confidences.old counts.old) found × Room (lent_segments starts.old ends.old keys.old confidences.old counts.old) 1 }
+    ensures { filled_rows result (lent_segments starts.new ends.new keys.new confidences.new counts.new) ≡ filled_of track (estimates_in (lent_columns middles.now numbers.now certainties.now) found) (lent_segments starts.old ends.old keys.old confidences.old counts.old) }
 {
     let count = cut_track(
         track,

@@ -33,8 +33,8 @@ pub fn locate_segments(
     confidences: &mut [f32],
     counts: &mut [u32],
 ) -> Located
-    requires { Prepared span (heard frames centres.now values.now) (lent_estimates middles numbers certainties shapeless) (lent_segments starts ends keys confidences counts) }
-    ensures { located_in result (lent_estimates middles.exit numbers.exit certainties.exit shapeless.exit) (lent_segments starts.exit ends.exit keys.exit confidences.exit counts.exit) ≡ located_of span track (heard frames centres.now values.now) (lent_estimates middles.entry numbers.entry certainties.entry shapeless.entry) (lent_segments starts.entry ends.entry keys.entry confidences.entry counts.entry) }
+    requires { Prepared span (heard frames centres.now values.now) (lent_estimates middles.old numbers.old certainties.old shapeless.old) (lent_segments starts.old ends.old keys.old confidences.old counts.old) }
+    ensures { located_in result (lent_estimates middles.new numbers.new certainties.new shapeless.new) (lent_segments starts.new ends.new keys.new confidences.new counts.new) ≡ located_of span track (heard frames centres.now values.now) (lent_estimates middles.old numbers.old certainties.old shapeless.old) (lent_segments starts.old ends.old keys.old confidences.old counts.old) }
 {
     let windows = count_windows(span);
     let estimates = fill_estimates(

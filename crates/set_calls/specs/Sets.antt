@@ -1,6 +1,5 @@
 -- What `ulyptesh_add_card` and `ulyptesh_remove_card` promise, as one definition of what they are given. Definitions only.
 use Rattle.std.specs.Prelude.{ℕ, Bool, not, List, [], ◌∷◌, eqb, ltb, length}
-use Rattle.std.specs.Borrow.{Bor}
 use Rattle.laws.specs.Table.{Check, ◌gives◌, first_of, any_of}
 use Rattle.card_reader.specs.Reading.{Reading, refused, says}
 use Rattle.laws.specs.Every.{same_numbers}
@@ -14,8 +13,8 @@ pub record CardSet : Type 0 where
   pub numbers : List ℕ
 
 -- as a contract has it: what the references refer to
-abbrev pub lent_set : Bor (List ℕ) → Bor (List ℕ) → CardSet
-lent_set bytes numbers = record { bytes = bytes.now; numbers = numbers.now }
+abbrev pub lent_set : List ℕ → List ℕ → CardSet
+lent_set bytes numbers = record { bytes = bytes; numbers = numbers }
 
 -- a set with its own summary
 abbrev pub summed_set : List ℕ → CardSet

@@ -45,7 +45,7 @@ fn same_numbers(a: &[u64], b: &[u64]) -> bool
 
 // Whether a lent set is of another size, has a spoilt place, or another summary than its own.
 fn is_untrue(set: &[u8], summary: &[u64]) -> bool
-    ensures { result ≡ untrue (lent_set set.entry summary.entry) }
+    ensures { result ≡ untrue (lent_set set.now summary.now) }
 {
     if !(set.len() == SET_SIZE) {
         return true;
@@ -57,7 +57,7 @@ fn is_untrue(set: &[u8], summary: &[u64]) -> bool
 
 // What the table says before a place is looked for: a refusal, or the card's layout.
 fn accept(set: &[u8], summary: &[u64], card: &[u8]) -> CardJudged
-    ensures { result ≡ accepted_as card.now (lent_set set.entry summary.entry) }
+    ensures { result ≡ accepted_as card.now (lent_set set.now summary.now) }
 {
     if is_untrue(set, summary) {
         return CardJudged::Refused(33);
@@ -76,7 +76,7 @@ fn accept(set: &[u8], summary: &[u64], card: &[u8]) -> CardJudged
 
 // Puts a card into the lowest free place of a set, and its numbers into the summary.
 pub fn add_card(set: &mut [u8], summary: &mut [u64], card: &[u8]) -> SetChange
-    ensures { set_outcome result (lent_set set.exit summary.exit) ≡ add_call card.now (lent_set set.entry summary.entry) }
+    ensures { set_outcome result (lent_set set.new summary.new) ≡ add_call card.now (lent_set set.old summary.old) }
 {
     let accepted = accept(set, summary, card);
     match accepted {
@@ -98,7 +98,7 @@ pub fn add_card(set: &mut [u8], summary: &mut [u64], card: &[u8]) -> SetChange
 
 // Frees the lowest place of a set with the card, and takes its numbers out of the summary.
 pub fn remove_card(set: &mut [u8], summary: &mut [u64], card: &[u8]) -> SetChange
-    ensures { set_outcome result (lent_set set.exit summary.exit) ≡ remove_call card.now (lent_set set.entry summary.entry) }
+    ensures { set_outcome result (lent_set set.new summary.new) ≡ remove_call card.now (lent_set set.old summary.old) }
 {
     let accepted = accept(set, summary, card);
     match accepted {

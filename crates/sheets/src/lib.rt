@@ -95,7 +95,7 @@ fn lists_fit(
     qcoefficients: &[f32],
     qwindows: &[f32],
 ) -> bool
-    ensures { result ≡ lists_fit (lent_sheet head window.entry coefficients.entry weights.entry lengths.entry qcoefficients.entry qwindows.entry) }
+    ensures { result ≡ lists_fit (lent_sheet head window.now coefficients.now weights.now lengths.now qcoefficients.now qwindows.now) }
 {
     let most = notes(head);
     (window.len() == head.frame_size)
@@ -115,7 +115,7 @@ pub fn well_formed(
     qcoefficients: &[f32],
     qwindows: &[f32],
 ) -> bool
-    ensures { result ≡ well_formed (lent_sheet head window.entry coefficients.entry weights.entry lengths.entry qcoefficients.entry qwindows.entry) }
+    ensures { result ≡ well_formed (lent_sheet head window.now coefficients.now weights.now lengths.now qcoefficients.now qwindows.now) }
 {
     if !lists_fit(
         head,

@@ -68,8 +68,8 @@ fn join_rows(
     confidences: &mut [f32],
     counts: &mut [u32],
 )
-    requires { Room (lent_segments starts ends keys confidences counts) (p + 2) × JoinableRows p (p + 1) (lent_segments starts ends keys confidences counts) }
-    ensures { lent_segments starts.exit ends.exit keys.exit confidences.exit counts.exit ≡ joined_rows p (lent_segments starts.entry ends.entry keys.entry confidences.entry counts.entry) }
+    requires { Room (lent_segments starts.old ends.old keys.old confidences.old counts.old) (p + 2) × JoinableRows p (p + 1) (lent_segments starts.old ends.old keys.old confidences.old counts.old) }
+    ensures { lent_segments starts.new ends.new keys.new confidences.new counts.new ≡ joined_rows p (lent_segments starts.old ends.old keys.old confidences.old counts.old) }
 {
     let next = p + 1;
     let earlier = segment_at(p, starts, ends, keys, confidences, counts);
@@ -96,8 +96,8 @@ fn take_in(
     confidences: &mut [f32],
     counts: &mut [u32],
 ) -> usize
-    requires { (0 < done) × (done ≤ next) × Room (lent_segments starts ends keys confidences counts) (next + 1) × JoinableRows (done - 1) next (lent_segments starts ends keys confidences counts) }
-    ensures { filled_rows result (lent_segments starts.exit ends.exit keys.exit confidences.exit counts.exit) ≡ taken_in least done next (lent_segments starts.entry ends.entry keys.entry confidences.entry counts.entry) }
+    requires { (0 < done) × (done ≤ next) × Room (lent_segments starts.old ends.old keys.old confidences.old counts.old) (next + 1) × JoinableRows (done - 1) next (lent_segments starts.old ends.old keys.old confidences.old counts.old) }
+    ensures { filled_rows result (lent_segments starts.new ends.new keys.new confidences.new counts.new) ≡ taken_in least done next (lent_segments starts.old ends.old keys.old confidences.old counts.old) }
 {
     let last = done - 1;
     let current = segment_at(last, starts, ends, keys, confidences, counts);
@@ -121,8 +121,8 @@ fn empty_rows(
     confidences: &mut [f32],
     counts: &mut [u32],
 )
-    requires { (from ≤ count) × Room (lent_segments starts ends keys confidences counts) count }
-    ensures { lent_segments starts.exit ends.exit keys.exit confidences.exit counts.exit ≡ emptied_rows from count (lent_segments starts.entry ends.entry keys.entry confidences.entry counts.entry) }
+    requires { (from ≤ count) × Room (lent_segments starts.old ends.old keys.old confidences.old counts.old) count }
+    ensures { lent_segments starts.new ends.new keys.new confidences.new counts.new ≡ emptied_rows from count (lent_segments starts.old ends.old keys.old confidences.old counts.old) }
 {
     let mut i = from;
     while i < count {
@@ -149,8 +149,8 @@ pub fn shorten_segments(
     confidences: &mut [f32],
     counts: &mut [u32],
 ) -> usize
-    requires { Room (lent_segments starts ends keys confidences counts) count × Numbered keys.old count × (total_windows (segments_in (lent_segments starts ends keys confidences counts) count) < 2 ^ 32) }
-    ensures { filled_rows result (lent_segments starts.exit ends.exit keys.exit confidences.exit counts.exit) ≡ settled least (segments_in (lent_segments starts.entry ends.entry keys.entry confidences.entry counts.entry) count) (lent_segments starts.entry ends.entry keys.entry confidences.entry counts.entry) }
+    requires { Room (lent_segments starts.old ends.old keys.old confidences.old counts.old) count × Numbered keys.old count × (total_windows (segments_in (lent_segments starts.old ends.old keys.old confidences.old counts.old) count) < 2 ^ 32) }
+    ensures { filled_rows result (lent_segments starts.new ends.new keys.new confidences.new counts.new) ≡ settled least (segments_in (lent_segments starts.old ends.old keys.old confidences.old counts.old) count) (lent_segments starts.old ends.old keys.old confidences.old counts.old) }
 {
     let first = first_short(least, count, starts, ends);
     // none is short: the rows stay as they are

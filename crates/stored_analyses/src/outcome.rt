@@ -45,7 +45,7 @@ fn frames_agree(
     work: &[f32],
 ) -> bool
     requires { (at + 512 ≤ length bytes.now) × (length centres.now ≡ 8) × (length values.now ≡ 8) × (length energies.now ≡ 8) × (length work.now ≡ 8) }
-    ensures { result ≡ same_frames bytes.now at (lent_rows centres.entry values.entry energies.entry) work.now }
+    ensures { result ≡ same_frames bytes.now at (lent_rows centres.now values.now energies.now) work.now }
 {
     times_agree(bytes, at, centres)
         & chromas_agree(bytes, at + 64, values)
@@ -63,7 +63,7 @@ fn estimates_agree(
     shapeless: &[u8],
 ) -> bool
     requires { (at + 100 ≤ length bytes.now) × (length middles.now ≡ 5) × (length numbers.now ≡ 5) × (length certainties.now ≡ 5) × (length shapeless.now ≡ 5) }
-    ensures { result ≡ same_estimates bytes.now at (lent_estimates middles.entry numbers.entry certainties.entry shapeless.entry) }
+    ensures { result ≡ same_estimates bytes.now at (lent_estimates middles.now numbers.now certainties.now shapeless.now) }
 {
     times_agree(bytes, at, middles)
         & numbers_agree(bytes, at + 40, numbers)
@@ -96,7 +96,7 @@ fn segments_agree(
     counts: &[u32],
 ) -> bool
     requires { (at + 140 ≤ length bytes.now) × (length starts.now ≡ 5) × (length ends.now ≡ 5) × (length keys.now ≡ 5) × (length confidences.now ≡ 5) × (length counts.now ≡ 5) }
-    ensures { result ≡ same_segments bytes.now at (lent_segments starts.entry ends.entry keys.entry confidences.entry counts.entry) }
+    ensures { result ≡ same_segments bytes.now at (lent_segments starts.now ends.now keys.now confidences.now counts.now) }
 {
     let windows = widened(counts);
     times_agree(bytes, at, starts)
@@ -125,8 +125,8 @@ pub fn outcome_agrees(
     confidences: &[f32],
     counts: &[u32],
 ) -> bool
-    requires { (start + 2424 ≤ length bytes.now) × Sized (lent_all centres values energies work middles numbers certainties shapeless starts ends keys confidences counts) }
-    ensures { result ≡ same_outcome bytes.now start (analyse_outcome answer (lent_all centres.entry values.entry energies.entry work.entry middles.entry numbers.entry certainties.entry shapeless.entry starts.entry ends.entry keys.entry confidences.entry counts.entry)) }
+    requires { (start + 2424 ≤ length bytes.now) × Sized (lent_all centres.now values.now energies.now work.now middles.now numbers.now certainties.now shapeless.now starts.now ends.now keys.now confidences.now counts.now) }
+    ensures { result ≡ same_outcome bytes.now start (analyse_outcome answer (lent_all centres.now values.now energies.now work.now middles.now numbers.now certainties.now shapeless.now starts.now ends.now keys.now confidences.now counts.now)) }
 {
     answer_agrees(bytes, start + 1580, answer)
         & frames_agree(bytes, start + 1672, centres, values, energies, work)

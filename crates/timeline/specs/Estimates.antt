@@ -1,6 +1,5 @@
 -- Estimates in lent rows, four slices side by side with keys by number, and centres that rise. Definitions only.
 use Rattle.std.specs.Prelude.{ℕ, ◌+◌, ◌<◌, false, List, [], ◌∷◌, map, length, get_or, T, Float}
-use Rattle.std.specs.Borrow.{Bor}
 use Rattle.std.specs.Float.{nan, binary64}
 use Rattle.std.specs.Float.Ieee.{le}
 use Rattle.laws.specs.Front.{front, shortest}
@@ -17,8 +16,8 @@ pub record EstimateRows : Type 0 where
   pub shapeless : List ℕ
 
 -- as a contract has it: what the references refer to
-abbrev pub lent_estimates : Bor (List Float) → Bor (List ℕ) → Bor (List Float) → Bor (List ℕ) → EstimateRows
-lent_estimates centres keys confidences shapeless = record { centres = centres.now; keys = keys.now; confidences = confidences.now; shapeless = shapeless.now }
+abbrev pub lent_estimates : List Float → List ℕ → List Float → List ℕ → EstimateRows
+lent_estimates centres keys confidences shapeless = record { centres = centres; keys = keys; confidences = confidences; shapeless = shapeless }
 
 -- the rows once those found stand in the first places
 abbrev pub holding_estimates : List Estimate → EstimateRows → EstimateRows

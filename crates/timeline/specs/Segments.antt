@@ -1,6 +1,5 @@
 -- A stretch of time with one key, [start, end) in seconds, and such segments in lent rows: five slices side by side, with keys by number. Definitions only.
 use Rattle.std.specs.Prelude.{ℕ, ◌+◌, Bool, List, [], ◌∷◌, map, length, get_or, Float}
-use Rattle.std.specs.Borrow.{Bor}
 use Rattle.std.specs.Float.{nan, binary64}
 use Rattle.std.specs.Float.Ieee.{sub, lt}
 use Rattle.laws.specs.Front.{front, list, shortest}
@@ -44,8 +43,8 @@ pub record SegmentRows : Type 0 where
   pub counts : List ℕ
 
 -- as a contract has it: what the references refer to
-abbrev pub lent_segments : Bor (List Float) → Bor (List Float) → Bor (List ℕ) → Bor (List Float) → Bor (List ℕ) → SegmentRows
-lent_segments starts ends keys confidences counts = record { starts = starts.now; ends = ends.now; keys = keys.now; confidences = confidences.now; counts = counts.now }
+abbrev pub lent_segments : List Float → List Float → List ℕ → List Float → List ℕ → SegmentRows
+lent_segments starts ends keys confidences counts = record { starts = starts; ends = ends; keys = keys; confidences = confidences; counts = counts }
 
 -- the rows once these segments stand in the first places
 abbrev pub holding_segments : List Segment → SegmentRows → SegmentRows

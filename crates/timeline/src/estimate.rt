@@ -28,7 +28,7 @@ pub fn put_estimate(
     shapeless: &mut [u8],
 )
     requires { (n < length centres.old) × (n < length keys.old) × (n < length confidences.old) × (n < length shapeless.old) }
-    ensures { lent_estimates centres.exit keys.exit confidences.exit shapeless.exit ≡ put_estimate estimate n (lent_estimates centres.entry keys.entry confidences.entry shapeless.entry) }
+    ensures { lent_estimates centres.new keys.new confidences.new shapeless.new ≡ put_estimate estimate n (lent_estimates centres.old keys.old confidences.old shapeless.old) }
 {
     let key = estimate.key;
     centres[n] = estimate.centre;
@@ -39,7 +39,7 @@ pub fn put_estimate(
 
 // How many rows there are.
 pub fn estimate_room(centres: &[f64], keys: &[u8], confidences: &[f32], shapeless: &[u8]) -> usize
-    ensures { result ≡ estimate_room (lent_estimates centres.entry keys.entry confidences.entry shapeless.entry) }
+    ensures { result ≡ estimate_room (lent_estimates centres.now keys.now confidences.now shapeless.now) }
 {
     let told = fewer(confidences.len(), shapeless.len());
     fewer(centres.len(), fewer(keys.len(), told))

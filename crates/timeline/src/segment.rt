@@ -76,7 +76,7 @@ pub fn put_segment(
     counts: &mut [u32],
 )
     requires { (n < length starts.old) × (n < length ends.old) × (n < length keys.old) × (n < length confidences.old) × (n < length counts.old) }
-    ensures { lent_segments starts.exit ends.exit keys.exit confidences.exit counts.exit ≡ put_segment segment n (lent_segments starts.entry ends.entry keys.entry confidences.entry counts.entry) }
+    ensures { lent_segments starts.new ends.new keys.new confidences.new counts.new ≡ put_segment segment n (lent_segments starts.old ends.old keys.old confidences.old counts.old) }
 {
     let key = segment.key;
     starts[n] = segment.start;
@@ -96,7 +96,7 @@ pub fn segment_at(
     counts: &[u32],
 ) -> Segment
     requires { (i < length starts.now) × (i < length ends.now) × (i < length keys.now) × (i < length confidences.now) × (i < length counts.now) }
-    ensures { result ≡ segment_in (lent_segments starts.entry ends.entry keys.entry confidences.entry counts.entry) i }
+    ensures { result ≡ segment_in (lent_segments starts.now ends.now keys.now confidences.now counts.now) i }
 {
     let start = starts[i];
     let end = ends[i];
@@ -131,7 +131,7 @@ pub fn is_short_row(least: f64, i: usize, starts: &[f64], ends: &[f64]) -> bool
 // The segment in row i as far as these columns tell it.
 pub fn stretch_at(i: usize, starts: &[f64], ends: &[f64], keys: &[u8]) -> Segment
     requires { (i < length starts.now) × (i < length ends.now) × (i < length keys.now) }
-    ensures { result ≡ stretch_in (lent_stretches starts.entry ends.entry keys.entry) i }
+    ensures { result ≡ stretch_in (lent_stretches starts.now ends.now keys.now) i }
 {
     let start = starts[i];
     let end = ends[i];
@@ -153,7 +153,7 @@ pub fn segment_room(
     confidences: &[f32],
     counts: &[u32],
 ) -> usize
-    ensures { result ≡ segment_room (lent_segments starts.entry ends.entry keys.entry confidences.entry counts.entry) }
+    ensures { result ≡ segment_room (lent_segments starts.now ends.now keys.now confidences.now counts.now) }
 {
     let told = fewer(confidences.len(), counts.len());
     fewer(starts.len(), fewer(ends.len(), fewer(keys.len(), told)))

@@ -58,7 +58,7 @@ pub extern "C" fn ulyptesh_write_packed_card(
     confidences: &[u16],
     bytes: &mut [u8],
 ) -> Written
-    ensures { bytes_outcome result bytes.new ≡ packed_call (header_from key dsp alternate coverage confidence) (lent_card_rows starts.entry ends.entry keys.entry confidences.entry) bytes.old }
+    ensures { bytes_outcome result bytes.new ≡ packed_call (header_from key dsp alternate coverage confidence) (lent_card_rows starts.now ends.now keys.now confidences.now) bytes.old }
 {
     write_packed_card(
         key,
@@ -85,7 +85,7 @@ pub extern "C" fn ulyptesh_read_card(
     keys: &mut [u8],
     confidences: &mut [u16],
 ) -> CardRead
-    ensures { read_outcome result (lent_card_rows starts.exit ends.exit keys.exit confidences.exit) ≡ read_call bytes.now (lent_card_rows starts.entry ends.entry keys.entry confidences.entry) }
+    ensures { read_outcome result (lent_card_rows starts.new ends.new keys.new confidences.new) ≡ read_call bytes.now (lent_card_rows starts.old ends.old keys.old confidences.old) }
 {
     read_card(bytes, starts, ends, keys, confidences)
 }

@@ -10,7 +10,7 @@ use set_calls::{SetChange, add_card, remove_card};
 // 31 no free place.
 #[unsafe(no_mangle)]
 pub extern "C" fn ulyptesh_add_card(set: &mut [u8], summary: &mut [u64], card: &[u8]) -> SetChange
-    ensures { set_outcome result (lent_set set.exit summary.exit) ≡ add_call card.now (lent_set set.entry summary.entry) }
+    ensures { set_outcome result (lent_set set.new summary.new) ≡ add_call card.now (lent_set set.old summary.old) }
 {
     add_card(set, summary, card)
 }
@@ -23,7 +23,7 @@ pub extern "C" fn ulyptesh_remove_card(
     summary: &mut [u64],
     card: &[u8],
 ) -> SetChange
-    ensures { set_outcome result (lent_set set.exit summary.exit) ≡ remove_call card.now (lent_set set.entry summary.entry) }
+    ensures { set_outcome result (lent_set set.new summary.new) ≡ remove_call card.now (lent_set set.old summary.old) }
 {
     remove_card(set, summary, card)
 }

@@ -25,7 +25,7 @@ fn write_window(
     shapeless: &mut [u8],
 ) -> usize
     requires { (ahead.frames ≤ length centres.now) × (ahead.frames ≤ length values.now) × Known (heard ahead.frames centres.now values.now) ahead start × (n < length middles.old) × (n < length keys.old) × (n < length confidences.old) × (n < length shapeless.old) }
-    ensures { wrote result (lent_estimates middles.exit keys.exit confidences.exit shapeless.exit) ≡ window_written span (heard ahead.frames centres.now values.now) start n (lent_estimates middles.entry keys.entry confidences.entry shapeless.entry) }
+    ensures { wrote result (lent_estimates middles.new keys.new confidences.new shapeless.new) ≡ window_written span (heard ahead.frames centres.now values.now) start n (lent_estimates middles.old keys.old confidences.old shapeless.old) }
 {
     let found = gather_window(start, start + span.window, ahead, centres, values);
     if found.frames == 0 {
@@ -49,8 +49,8 @@ pub fn fill_estimates(
     confidences: &mut [f32],
     shapeless: &mut [u8],
 ) -> usize
-    requires { Ready span (heard frames centres.now values.now) (lent_estimates middles keys confidences shapeless) windows }
-    ensures { wrote result (lent_estimates middles.exit keys.exit confidences.exit shapeless.exit) ≡ windows_written span (heard frames centres.now values.now) windows (lent_estimates middles.entry keys.entry confidences.entry shapeless.entry) }
+    requires { Ready span (heard frames centres.now values.now) (lent_estimates middles.old keys.old confidences.old shapeless.old) windows }
+    ensures { wrote result (lent_estimates middles.new keys.new confidences.new shapeless.new) ≡ windows_written span (heard frames centres.now values.now) windows (lent_estimates middles.old keys.old confidences.old shapeless.old) }
 {
     let mut ahead = look_ahead(frames, centres);
     let mut start = 0.0;

@@ -1,6 +1,5 @@
 -- Estimates put into lent rows, and read from those columns that segments are made of. No promise names it. Definitions only.
 use Rattle.std.specs.Prelude.{ℕ, ◌^◌, ◌<◌, ◌≤◌, false, List, length, get_or, set, Float}
-use Rattle.std.specs.Borrow.{Bor}
 use Rattle.std.specs.Float.{nan}
 use Rattle.laws.specs.Front.{list}
 use Rattle.numbers.specs.Flags.{one_if}
@@ -31,8 +30,8 @@ abbrev pub columns : List Float → List ℕ → List Float → Columns
 columns centres keys confidences = record { centres = centres; keys = keys; confidences = confidences }
 
 -- as a contract has it: what the references refer to
-abbrev pub lent_columns : Bor (List Float) → Bor (List ℕ) → Bor (List Float) → Columns
-lent_columns centres keys confidences = columns centres.now keys.now confidences.now
+abbrev pub lent_columns : List Float → List ℕ → List Float → Columns
+lent_columns centres keys confidences = columns centres keys confidences
 
 -- those of whole rows
 abbrev pub columns_of : EstimateRows → Columns

@@ -1,6 +1,5 @@
 -- Segments put into lent rows, what is left in them, and what is read from some of their columns. No promise names it. Definitions only.
 use Rattle.std.specs.Prelude.{ℕ, ◌+◌, ◌^◌, ◌<◌, ◌≤◌, Bool, List, length, get_or, set, Float}
-use Rattle.std.specs.Borrow.{Bor}
 use Rattle.std.specs.Float.{nan, binary64}
 use Rattle.std.specs.Float.Ieee.{sub, lt}
 use Rattle.laws.specs.Front.{list}
@@ -65,8 +64,8 @@ abbrev pub stretches : List Float → List Float → List ℕ → Stretches
 stretches starts ends keys = record { starts = starts; ends = ends; keys = keys }
 
 -- as a contract has it: what the references refer to
-abbrev pub lent_stretches : Bor (List Float) → Bor (List Float) → Bor (List ℕ) → Stretches
-lent_stretches starts ends keys = stretches starts.now ends.now keys.now
+abbrev pub lent_stretches : List Float → List Float → List ℕ → Stretches
+lent_stretches starts ends keys = stretches starts ends keys
 
 -- those of whole rows
 abbrev pub stretches_of : SegmentRows → Stretches

@@ -9,7 +9,6 @@ mod cards;
 mod chroma;
 mod frames;
 mod interface;
-mod mending;
 mod names;
 mod packed_cards;
 mod rows;
@@ -24,9 +23,6 @@ pub use cards::{CardFields, LONGEST_CARD, MOST_CARD_SEGMENTS, SHORTEST_CARD, wri
 pub use chroma::{KeyResult, ScoresResult, WRONG_LENGTH, key, scores};
 pub use frames::{FramesResult, frames};
 pub use interface::{ABI, abi};
-pub use mending::{
-    CardMended, MEND_KEY_BROKEN, MEND_NO_SEGMENT, MEND_ROOM_TOO_SMALL, MEND_TOO_SHORT, MEND_UNKNOWN_LAYOUT, mend_card,
-};
 pub use names::{LONGEST_NAME, write_key_name};
 pub use packed_cards::{
     CARD_BROKEN, CARD_NEEDLESS_LAYOUT, CARD_UNKNOWN_LAYOUT, CARD_WRONG_LENGTH, CardRead, PackedFields,

@@ -16,13 +16,13 @@ use Rattle.alternates.proofs.alternate.alternate_key.Tie as tie
 
 -- the columns that the call is lent
 abbrev rows : tie.Start → Stretches
-rows s = lent_stretches s.args.starts s.args.ends s.args.keys
+rows s = lent_stretches s.args.starts.now s.args.ends.now s.args.keys.now
 
 returns : tie.Need-returns
 unfolding of_bits
 returns c =
     let s = c.before.before.before.before in
-    none-asked (rows s) s.args.count (key_number s.args.reported) s.args.threshold c.if1.true
+    none-asked (rows s) s.args.count.now (key_number s.args.reported.now) s.args.threshold.now c.if1.true
 
 total-seconds-requires : tie.Need-total-seconds-requires
 total-seconds-requires c κs = search rules
@@ -31,7 +31,7 @@ returns-2 : tie.Need-returns-2
 unfolding of_bits
 returns-2 c =
     let s = c.before.before.before.before.before.before in
-    all-instants (rows s) s.args.count (key_number s.args.reported) s.args.threshold c.before.before.if1.false c.before.total-seconds.ensures c.if2.true
+    all-instants (rows s) s.args.count.now (key_number s.args.reported.now) s.args.threshold.now c.before.before.if1.false c.before.total-seconds.ensures c.if2.true
 
 key-number-requires : tie.Need-key-number-requires
 key-number-requires c κs = search rules

@@ -27,7 +27,7 @@ decreases-loop reported count starts ends keys sums₀ order₀ known₀ met₀ 
 
 -- the columns that the call is lent
 abbrev rows : tie.Start invariant-loop decreases-loop → Stretches
-rows s = lent_stretches s.args.starts s.args.ends s.args.keys
+rows s = lent_stretches s.args.starts.now s.args.ends.now s.args.keys.now
 
 -- segment i, and whether it lasts
 module _ (c : tie.After-is-lasting invariant-loop decreases-loop) where

@@ -22,7 +22,7 @@ decreases-loop count starts ends keys sum₀ i₀ sum i = count - i
 
 -- the columns that the call is lent
 abbrev rows : tie.Start invariant-loop decreases-loop → Stretches
-rows s = lent_stretches s.args.starts s.args.ends s.args.keys
+rows s = lent_stretches s.args.starts.now s.args.ends.now s.args.keys.now
 
 loop-holds : tie.Need-loop-init invariant-loop decreases-loop
 unfolding total_of list fold of_bits neg

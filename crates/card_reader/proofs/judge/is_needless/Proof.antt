@@ -7,13 +7,13 @@ use Rattle.bits.specs.Bits.{bits_of_bytes}
 use Rattle.card.specs.Layout.{Meaning, layout1}
 use Rattle.card.specs.Rules.{card_broken, needless}
 use Rattle.card.specs.declared.layout.Layout.{Layout}
-use Rattle.card_form.specs.Form.{with_first}
+use Rattle.card_form.specs.Form.{meaning_on}
 use Rattle.card_reader.proofs.judge.is_needless.Statement.{statement}
 use Rattle.card_reader.proofs.judge.is_needless.Tie as tie
 
--- what is judged, and the answer, from whether the layout is 1
+-- what the card says, and the answer, from whether its layout is 1
 abbrev said : tie.Start → Meaning
-said c = with_first c.args.l (bits_of_bytes c.args.bytes.now) c.args.h c.args.count
+said c = meaning_on c.args.l (bits_of_bytes c.args.bytes.now)
 
 abbrev answer : tie.Start → Bool → Bool
 answer c first = not first && not (card_broken layout1 (said c))

@@ -10,12 +10,11 @@ use borrow.Author.Rules.{rules}
 use borrow.Author.Tests.{lt-ltb, le-ltb, ltb-false, eqb-true, not-false}
 use Rattle.laws.proofs.Table.{Reads, here, next, end, reads, told, told-not}
 use Rattle.bits.specs.Bits.{bits_of_bytes}
-use Rattle.card.specs.Layout.{Meaning, layouts, numbered_in, is_found, layout_or1}
+use Rattle.card.specs.Layout.{layouts, numbered_in, is_found, layout_or1}
 use Rattle.card.specs.Rules.{card_broken, needless}
 use Rattle.card.specs.declared.layout.Layout.{Layout}
-use Rattle.card.specs.declared.layout.Header.{Header}
 use Rattle.card.proofs.Known.{Sound, found-sound}
-use Rattle.card_form.specs.Form.{card_size, number_on, count_on, with_first, meaning_on, filler_set}
+use Rattle.card_form.specs.Form.{card_size, number_on, count_on, meaning_on, filler_set}
 use Rattle.card_reader.specs.Reading.{layout_on, reading_table, judged_of}
 use Rattle.card_reader.specs.declared.judge.CardJudged.{CardJudged}
 use Rattle.card_reader.specs.declared.judge.CardJudged.TheVariants.{Readable}
@@ -135,39 +134,21 @@ module _ (c : tie.Else3) where
   whole : length (bytes whole-layout) ≡ card_size whole-layout.layout-or-1.result size.before.count-on.result
   whole = eqb-true _ _ (not-false _ c.if3.false) ∙ size.card-size.ensures
 
-header-on-requires : tie.Need-header-on-requires
-header-on-requires c κs =
-    let fits = (sound (whole-layout c)).fits in
-    (fits, omega (arith, fits.count, ltb-false (length (bytes (whole-layout c))) 7 (long (second (size c)))))
-
--- what is said of all segments that are counted
-all_said : (c : tie.After-header-on) → let found = whole-layout c.before in (holds : Layout → Meaning → Bool) →
-    holds found.layout-or-1.result (with_first found.layout-or-1.result (bits found) c.header-on.result (size c.before).before.count-on.result) ≡ holds (l found) (meaning_on (l found) (bits found))
-all_said c holds =
-    let found = whole-layout c.before in
-    let k = found.layout-or-1.result in
-    ap₂ (λ (h : Header) (n : ℕ). holds k (with_first k (bits found) h n)) c.header-on.ensures (size c.before).before.count-on.ensures.0
-    ∙ ap (λ (x : Layout). holds x (meaning_on x (bits found))) (layout_is found)
-
 is-broken-requires : tie.Need-is-broken-requires
 is-broken-requires c κs =
-    let third = c.before in
-    let count = (size third).before.count-on.ensures in
-    ((sound (whole-layout third)).fits, count.1, omega (arith, whole third))
+    let count = (size c).before.count-on.ensures in
+    ((sound (whole-layout c)).fits, count.1, count.0, omega (arith, whole c))
 
 filler-set-requires : tie.Need-filler-set-requires
 filler-set-requires c κs =
-    let third = c.before.before in
+    let third = c.before in
     let count = (size third).before.count-on.ensures in
     ((sound (whole-layout third)).fits, count.1, count.0, whole third)
 
 -- behind the rules
 module _ (c : tie.After-filler-set) where
-  abbrev headed : tie.After-header-on
-  headed = c.before.before
-
   abbrev third : tie.Else3
-  third = headed.before
+  third = c.before.before
 
   abbrev found : tie.After-layout-or-1
   found = whole-layout third
@@ -177,7 +158,7 @@ module _ (c : tie.After-filler-set) where
 
   of-rules : {b : Bool} → c.before.is-broken.result || c.filler-set.result ≡ b → card_broken (l found) (meaning_on (l found) (bits found)) || filler_set (l found) (bits found) ≡ b
   of-rules t =
-      sym (ap₂ (λ (x y : Bool). x || y) (c.before.is-broken.ensures ∙ all_said headed card_broken)
+      sym (ap₂ (λ (x y : Bool). x || y) (c.before.is-broken.ensures ∙ ap (λ (k : Layout). card_broken k (meaning_on k (bits found))) (layout_is found))
       (c.filler-set.ensures ∙ ap (λ (k : Layout). filler_set k (bits found)) (layout_is found)))
       ∙ t
 
@@ -192,7 +173,7 @@ is-needless-requires : tie.Need-is-needless-requires
 is-needless-requires c κs =
     let third = third c.before in
     let count = (size third).before.count-on.ensures in
-    ((sound (whole-layout third)).fits, count.1, omega (arith, whole third))
+    ((sound (whole-layout third)).fits, count.1, count.0, omega (arith, whole third))
 
 -- behind the layout that is needed
 module _ (c : tie.After-is-needless) where
@@ -200,7 +181,7 @@ module _ (c : tie.After-is-needless) where
   rules = c.before.before
 
   of-need : {b : Bool} → c.is-needless.result ≡ b → needless (l (found rules)) (meaning_on (l (found rules)) (bits (found rules))) ≡ b
-  of-need t = told (c.is-needless.ensures ∙ all_said (headed rules) needless) t
+  of-need t = told (c.is-needless.ensures ∙ ap (λ (k : Layout). needless k (meaning_on k (bits (found rules)))) (layout_is (found rules))) t
 
   -- the rows above have failed
   beyond : {answer : CardJudged} → Reads (Readable (l (found rules))) (drop 4 (reading_table (bytes (found rules)) (bits (found rules)) (l (found rules)) (rows rules))) answer → answer ≡ judged_of (bytes (found rules)) (rows rules)
@@ -237,7 +218,6 @@ judge-card-spec =
     count-on-requires
     card-size-requires
     returns-3
-    header-on-requires
     is-broken-requires
     filler-set-requires
     returns-4

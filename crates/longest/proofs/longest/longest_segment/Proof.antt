@@ -22,7 +22,7 @@ decreases-loop count starts ends keys best₀ i₀ best i = count - i
 
 -- the columns that the call is lent
 abbrev rows : tie.Start invariant-loop decreases-loop → Stretches
-rows s = lent_stretches s.args.starts s.args.ends s.args.keys
+rows s = lent_stretches s.args.starts.now s.args.ends.now s.args.keys.now
 
 stretch-at-requires : tie.Need-stretch-at-requires invariant-loop decreases-loop
 stretch-at-requires c κs = search rules
@@ -31,8 +31,8 @@ loop-holds : tie.Need-loop-init invariant-loop decreases-loop
 unfolding longest_of
 loop-holds c =
     let s = c.before.before.before.before in
-    let segments = stretches_in (rows s) s.args.count in
-    let first = read_at (rows s) s.args.count 0 s.requires.0 c.stretch-at.ensures in
+    let segments = stretches_in (rows s) s.args.count.now in
+    let first = read_at (rows s) s.args.count.now 0 s.requires.0 c.stretch-at.ensures in
     (zero-le, ap (turns (longest_turn segments) (s.args.count - 0) 0) first ∙ rows_start (rows s) s.args.count (longest_turn segments) (segment_at segments 0))
 
 stretch-at-requires-2 : tie.Need-stretch-at-requires-2 invariant-loop decreases-loop

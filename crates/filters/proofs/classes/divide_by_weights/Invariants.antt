@@ -1,0 +1,16 @@
+-- The array is written from the front, a class a turn.
+use borrow.Author.Rules.{rules}
+use native.Mathlib.Omega.{arith}
+use Prim.Native.Nat.{ℕ, ◌≤◌, ◌-◌}
+use mathlib.Core.Path.{refl}
+use lib.ListN.{get_or}
+use lib.Ieee.{nan}
+use Rattle.laws.proofs.Front.{Filled, filled-start, filled_more, filled-whole}
+use Rattle.filters.specs.Classes.{divided_value, divided_by_class}
+use Rattle.filters.proofs.classes.divide_by_weights.Given as goal
+
+abbrev pub invariant-loop-i : goal.invariant-loop-i
+invariant-loop-i l = (l.i ≤ 12) × Filled (λ (j : ℕ). divided_value (get_or l.values j nan) (get_or l.weights j nan)) l.initial.means l.means l.i
+
+abbrev pub decreases-loop-i : goal.decreases-loop-i
+decreases-loop-i l = 12 - l.i

@@ -1,0 +1,18 @@
+-- A row a turn.
+use borrow.Author.Rules.{rules}
+use native.Mathlib.Omega.{arith}
+use Prim.Native.Nat.{ℕ, ◌≤◌, ◌-◌}
+use mathlib.Core.Path.{◌≡◌, refl}
+use lib.ListN.{length, get_or}
+use lib.Ieee.{Float, nan, of_bits}
+use mathlib.Core.List.{List}
+use Rattle.laws.specs.Turns.{turns}
+use Rattle.laws.proofs.Turns.{turns-start, turns-again, turns-end}
+use Rattle.filters.specs.Classes.{class_added, added_by_class, weights_by_class}
+use Rattle.filters.proofs.classes.sum_weights.Given as goal
+
+abbrev pub invariant-loop-k : goal.invariant-loop-k
+invariant-loop-k l = (l.k ≤ length l.weights) × (turns (λ (j : ℕ) (s : List Float). class_added l.lowest j (get_or l.weights j nan) s) (length l.weights - l.k) l.k l.sums ≡ weights_by_class l.lowest l.weights)
+
+abbrev pub decreases-loop-k : goal.decreases-loop-k
+decreases-loop-k l = length l.weights - l.k

@@ -1,0 +1,7 @@
+-- The callee's definition four times.
+use borrow.Author.Rules.{rules}
+use mathlib.Core.Path.{refl}
+use Rattle.filters.proofs.four.four_at_rest.Goals as goal
+
+pub returns : goal.returns
+returns c = rw c.at_rest-rest.ensures refl

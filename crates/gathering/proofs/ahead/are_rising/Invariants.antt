@@ -1,0 +1,22 @@
+-- A pair a turn, joined to those before.
+use mathlib.Core.Path.{◌≡◌, refl}
+use mathlib.Core.Bool.{Bool}
+use mathlib.Core.List.{List}
+use Prim.Native.Nat.{ℕ, ◌+◌, ◌-◌, ◌≤◌}
+use native.Mathlib.Omega.{arith}
+use borrow.Author.Rules.{rules}
+use lib.ListN.{get_or}
+use lib.Ieee.{Float, nan, le}
+use Rattle.laws.specs.Every.{every, every_pair}
+use Rattle.laws.proofs.Every.{every_more, every-all}
+use Rattle.gathering.proofs.ahead.are_rising.Given as goal
+
+-- centre k is not above the next
+abbrev pub upward : List Float → ℕ → Bool
+upward centres k = le (get_or centres k nan) (get_or centres (k + 1) nan)
+
+abbrev pub invariant-loop-i : goal.invariant-loop-i
+invariant-loop-i l = (l.i ≤ l.frames - 1) × (l.sofar ≡ every (upward l.centres) l.i)
+
+abbrev pub decreases-loop-i : goal.decreases-loop-i
+decreases-loop-i l = l.frames - l.i

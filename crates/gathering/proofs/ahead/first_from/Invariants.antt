@@ -1,0 +1,16 @@
+-- The loop's invariant: the search goes on from i.
+use mathlib.Core.Path.{◌≡◌, refl}
+use Prim.Native.Nat.{◌-◌}
+use borrow.Author.Rules.{rules}
+use Rattle.laws.specs.First.{first}
+use Rattle.laws.proofs.First.{first-again, first_out, first-end}
+use Rattle.gathering.specs.inside.Ahead.{is_from, first_from}
+use Rattle.gathering.proofs.ahead.first_from.Given as goal
+
+abbrev pub invariant-loop-i : goal.invariant-loop-i
+invariant-loop-i l =
+    let test = is_from l.centres l.start in
+    first test (l.ahead.frames - l.i) l.i ≡ first test (l.ahead.frames - l.ahead.from) l.ahead.from
+
+abbrev pub decreases-loop-i : goal.decreases-loop-i
+decreases-loop-i l = l.ahead.frames - l.i

@@ -1,0 +1,6 @@
+-- What `are_rising` tells, with nothing behind.
+use borrow.Author.Rules.{rules}
+use Rattle.gathering.proofs.ahead.look_ahead.Goals as goal
+
+pub returns : goal.returns
+returns c = rw c.are_rising-rising.ensures

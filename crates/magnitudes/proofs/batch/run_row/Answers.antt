@@ -1,0 +1,24 @@
+-- A value of the frame a turn.
+use borrow.Author.Rules.{rules}
+use native.Mathlib.Omega.{arith}
+use Prim.Native.Nat.{ℕ, ◌≤◌, ◌-◌}
+use mathlib.Core.Path.{◌≡◌, refl, ◌∙◌}
+use lib.ListN.{length}
+use Rattle.laws.specs.Turns.{turns}
+use Rattle.laws.proofs.Turns.{turns-start, turns-again, turns-end}
+use Rattle.filters.specs.Resonator.{stepped_of, resonated}
+use Rattle.filters.specs.declared.resonator.Delay.{Delay}
+use Rattle.magnitudes.specs.Magnitudes.{frame_value}
+use Rattle.magnitudes.proofs.batch.run_row.Goals as goal
+
+pub loop-i-init : goal.loop-i-init
+unfolding resonated
+loop-i-init c = (omega arith, rw c.at_rest_lem.ensures (turns-start _ _ _))
+
+pub loop-i-preserved : goal.loop-i-preserved
+loop-i-preserved c =
+    let turn = c.loop-i in
+    (omega arith, turns-again _ _ turn.i turn.invariant.1 (omega arith) (c.step-delay.ensures ∙ rw c.windowed-x.ensures refl))
+
+pub returns : goal.returns
+returns c = let end = c.loop-i in turns-end _ _ end.i end.invariant.1 (omega arith)

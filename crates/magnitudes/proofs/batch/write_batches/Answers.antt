@@ -1,0 +1,25 @@
+-- A batch a turn.
+use borrow.Author.Rules.{rules}
+use native.Mathlib.Omega.{arith}
+use Prim.Native.Nat.{ℕ, ◌*◌, ◌≤◌, ◌-◌}
+use mathlib.Core.Path.{◌≡◌, refl, ◌∙◌}
+use mathlib.Core.List.{List}
+use lib.ListN.{length}
+use lib.Ieee.{Float}
+use Rattle.laws.specs.Turns.{turns}
+use Rattle.laws.proofs.Turns.{turns-start, turns-again, turns-end}
+use Rattle.filters.specs.Four.{put_four}
+use Rattle.magnitudes.specs.InFours.{coefficients_from, batch_powers, roots_of, put_batches}
+use Rattle.magnitudes.proofs.batch.write_batches.Goals as goal
+
+pub loop-j-init : goal.loop-j-init
+unfolding put_batches
+loop-j-init c = (omega arith, turns-start _ _ _, refl)
+
+pub loop-j-preserved : goal.loop-j-preserved
+loop-j-preserved c =
+    let turn = c.loop-j in
+    (omega arith, turns-again _ _ turn.j turn.invariant.1 (omega arith) (c.put_four.ensures ∙ rw (c.roots_of_four.ensures, c.goertzel_power_batch_4-powers.ensures, c.coefficients_from-four.ensures) refl), c.put_four.auto.1.1.0 ∙ turn.invariant.2)
+
+pub returns : goal.returns
+returns c = let end = c.loop-j in turns-end _ _ end.j end.invariant.1 (omega arith)

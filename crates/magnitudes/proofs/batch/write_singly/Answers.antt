@@ -1,0 +1,26 @@
+-- A row a turn.
+use borrow.Author.Rules.{rules}
+use native.Mathlib.Omega.{arith}
+use Prim.Native.Nat.{ℕ, ◌≤◌, ◌-◌}
+use mathlib.Core.Path.{◌≡◌, refl}
+use mathlib.Core.List.{List}
+use lib.ListN.{length, set}
+use lib.Ieee.{Float}
+use Rattle.laws.specs.Turns.{turns}
+use Rattle.laws.proofs.Turns.{turns-again, turns-end}
+use Rattle.magnitudes.specs.Magnitudes.{row_magnitude}
+use Rattle.magnitudes.specs.InFours.{put_singly}
+use Rattle.magnitudes.proofs.batch.write_singly.Goals as goal
+
+pub loop-k-init : goal.loop-k-init
+unfolding put_singly
+loop-k-init c = (omega arith, refl, refl)
+
+pub loop-k-preserved : goal.loop-k-preserved
+unfolding row_magnitude
+loop-k-preserved c =
+    let turn = c.loop-k in
+    (omega arith, turns-again _ _ turn.k turn.invariant.1 (omega arith) (rw (c.last_magnitude.ensures, c.run_row-delay.ensures) refl), search rules)
+
+pub returns : goal.returns
+returns c = let end = c.loop-k in turns-end _ _ end.k end.invariant.1 (omega arith)

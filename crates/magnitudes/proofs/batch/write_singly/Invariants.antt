@@ -1,0 +1,19 @@
+-- A row a turn.
+use borrow.Author.Rules.{rules}
+use native.Mathlib.Omega.{arith}
+use Prim.Native.Nat.{ℕ, ◌≤◌, ◌-◌}
+use mathlib.Core.Path.{◌≡◌, refl}
+use mathlib.Core.List.{List}
+use lib.ListN.{length, set}
+use lib.Ieee.{Float}
+use Rattle.laws.specs.Turns.{turns}
+use Rattle.laws.proofs.Turns.{turns-again, turns-end}
+use Rattle.magnitudes.specs.Magnitudes.{row_magnitude}
+use Rattle.magnitudes.specs.InFours.{put_singly}
+use Rattle.magnitudes.proofs.batch.write_singly.Given as goal
+
+abbrev pub invariant-loop-k : goal.invariant-loop-k
+invariant-loop-k l = (l.k ≤ length l.coefficients) × (turns (λ (i : ℕ) (r : List Float). set r i (row_magnitude l.window l.coefficients l.samples l.start i)) (length l.coefficients - l.k) l.k l.room ≡ put_singly l.window l.coefficients l.samples l.start l.from l.initial.room) × (length l.room ≡ length l.initial.room)
+
+abbrev pub decreases-loop-k : goal.decreases-loop-k
+decreases-loop-k l = length l.coefficients - l.k

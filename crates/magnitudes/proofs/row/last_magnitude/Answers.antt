@@ -1,0 +1,7 @@
+-- The callees' definitions, put together.
+use borrow.Author.Rules.{rules}
+use mathlib.Core.Path.{refl}
+use Rattle.magnitudes.proofs.row.last_magnitude.Goals as goal
+
+pub returns : goal.returns
+returns c = rw (c.square_root.ensures, c.last_power.ensures) refl

@@ -1,0 +1,16 @@
+-- The room is written from the front, a row a turn.
+use borrow.Author.Rules.{rules}
+use native.Mathlib.Omega.{arith}
+use Prim.Native.Nat.{ℕ, ◌≤◌, ◌-◌}
+use lib.ListN.{length, get_or}
+use lib.Ieee.{nan}
+use Rattle.laws.proofs.Front.{Filled, filled-start, filled_more, filled-to}
+use Rattle.magnitudes.specs.Magnitudes.{last_magnitude}
+use Rattle.magnitudes.specs.SideBySide.{delay_lists, delay_at, last_magnitudes}
+use Rattle.magnitudes.proofs.side_by_side.last_magnitudes.Given as goal
+
+abbrev pub invariant-loop-k : goal.invariant-loop-k
+invariant-loop-k l = (l.k ≤ length l.coefficients) × Filled (λ (j : ℕ). last_magnitude (get_or l.coefficients j nan) (delay_at (delay_lists l.last l.before) j)) l.initial.room l.room l.k
+
+abbrev pub decreases-loop-k : goal.decreases-loop-k
+decreases-loop-k l = length l.coefficients - l.k

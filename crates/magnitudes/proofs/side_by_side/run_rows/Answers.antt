@@ -1,0 +1,23 @@
+-- A value of the frame a turn.
+use borrow.Author.Rules.{rules}
+use native.Mathlib.Omega.{arith}
+use Prim.Native.Nat.{ℕ, ◌≤◌, ◌-◌}
+use lib.ListN.{length}
+use mathlib.Core.Path.{◌≡◌, refl, ◌∙◌}
+use Rattle.laws.specs.Turns.{turns}
+use Rattle.laws.proofs.Turns.{turns-start, turns-again, turns-end}
+use Rattle.magnitudes.specs.Magnitudes.{frame_value}
+use Rattle.magnitudes.specs.SideBySide.{DelayLists, delay_lists, stepped_rows, run_rows}
+use Rattle.magnitudes.proofs.side_by_side.run_rows.Goals as goal
+
+pub loop-i-init : goal.loop-i-init
+unfolding run_rows
+loop-i-init c = (omega arith, turns-start _ _ _, refl, refl)
+
+pub loop-i-preserved : goal.loop-i-preserved
+loop-i-preserved c =
+    let turn = c.loop-i in
+    (omega arith, turns-again _ _ turn.i turn.invariant.1 (omega arith) (c.step_rows.ensures ∙ rw c.windowed-x.ensures refl), c.step_rows.auto.1.1.0 ∙ turn.invariant.2, c.step_rows.auto.1.1.1.0 ∙ turn.invariant.3)
+
+pub returns : goal.returns
+returns c = let end = c.loop-i in turns-end _ _ end.i end.invariant.1 (omega arith)

@@ -1,0 +1,15 @@
+-- A +0 a turn.
+use Prim.Native.Nat.{ℕ, ◌≤◌, ◌-◌}
+use native.Mathlib.Omega.{arith}
+use lib.Ieee.{of_bits}
+use Rattle.laws.specs.Values.{plus_zero}
+use Rattle.laws.proofs.Front.{Filled, filled-start, filled_more}
+use Rattle.medians.proofs.Zeroed.{filled-same}
+use borrow.Author.Rules.{rules}
+use Rattle.medians.proofs.set_to_zero.Given as goal
+
+abbrev pub invariant-loop-i : goal.invariant-loop-i
+invariant-loop-i l = (l.i ≤ l.count) × Filled (λ (k : ℕ). plus_zero) l.initial.work l.work l.i
+
+abbrev pub decreases-loop-i : goal.decreases-loop-i
+decreases-loop-i l = l.count - l.i

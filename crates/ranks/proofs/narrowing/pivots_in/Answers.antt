@@ -1,0 +1,15 @@
+-- Whatever is picked, what is returned divides.
+use mathlib.Core.Path.{sym, subst}
+use Prim.Native.Nat.{◌≤◌, ◌-◌}
+use lib.Dec.{T}
+use lib.Ieee.{Float, lt, of_bits}
+use Rattle.ranks.specs.inside.Narrow.{divides}
+use borrow.Author.Rules.{rules}
+use Rattle.ranks.proofs.narrowing.pivots_in.Goals as goal
+
+pub dividing-requires : goal.dividing-requires
+unfolding of_bits lt
+dividing-requires c = subst (λ (x : Float). T (divides x)) (sym c.from_pattern.ensures) tt
+
+pub returns : goal.returns
+returns c = (c.dividing.ensures, c.just_above.ensures)

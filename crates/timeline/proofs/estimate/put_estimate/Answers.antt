@@ -1,0 +1,6 @@
+-- What the calls ensure, put together.
+use borrow.Author.Rules.{rules}
+use Rattle.timeline.proofs.estimate.put_estimate.Goals as goal
+
+pub returns : goal.returns
+returns c = cc

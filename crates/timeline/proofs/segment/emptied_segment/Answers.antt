@@ -1,0 +1,8 @@
+-- What the calls ensure, put together.
+use borrow.Author.Rules.{rules}
+use lib.Ieee.{of_bits}
+use Rattle.timeline.proofs.segment.emptied_segment.Goals as goal
+
+pub returns : goal.returns
+unfolding of_bits
+returns c = cc

@@ -1,0 +1,10 @@
+-- What the call ensures, compared.
+use mathlib.Core.Path.{ap}
+use lib.Ieee.{Float, lt}
+use Rattle.timeline.specs.inside.Segments.{short_in}
+use borrow.Author.Rules.{rules}
+use Rattle.timeline.proofs.segment.is_short_row.Goals as goal
+
+pub returns : goal.returns
+unfolding short_in lt
+returns c = ap (λ (x : Float). lt x c.args.least) c.row_seconds.ensures

@@ -1,0 +1,13 @@
+-- What the calls ensure, put together.
+use mathlib.Core.Path.{ap₂}
+use Prim.Native.Nat.{◌+◌}
+use lib.Ieee.{Float}
+use borrow.Author.Rules.{rules}
+use Rattle.timeline.specs.Segments.{segment, joined}
+use Rattle.timeline.proofs.segment.join_segments.Goals as goal
+
+pub returns : goal.returns
+unfolding joined
+returns c =
+    let args = c.args in
+    ap₂ (λ (x y : Float). segment x y args.earlier.key args.earlier.confidence (args.earlier.windows + args.later.windows)) c.smaller.ensures c.larger.ensures
