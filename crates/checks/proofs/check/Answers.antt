@@ -111,7 +111,7 @@ returns-then-not-well_formed c =
     let past6 : Past 6 = λ answer r. past5 answer (next (le-ltb _ _ c.if-samples-settings.false) r) in
     let past7 : Past 7 = λ answer r. past6 answer (next c.if-hasty.false r) in
     let past8 : Past 8 = λ answer r. past7 answer (next (told-not c.matches.ensures (ap not c.if-not-matches.false)) r) in
-    past8 _ (here (told-not c.well-formed-2.ensures (ap not c.if-not-well_formed.true)))
+    past8 _ (here (told-not c.well_formed-2.ensures (ap not c.if-not-well_formed.true)))
 
 pub frame_positions-positions-requires : goal.frame_positions-positions-requires
 frame_positions-positions-requires c =
@@ -131,7 +131,7 @@ returns-then-few-room c =
     let past6 : Past 6 = λ answer r. past5 answer (next (le-ltb _ _ c.if-samples-settings.false) r) in
     let past7 : Past 7 = λ answer r. past6 answer (next c.if-hasty.false r) in
     let past8 : Past 8 = λ answer r. past7 answer (next (told-not c.matches.ensures (ap not c.if-not-matches.false)) r) in
-    let past9 : Past 9 = λ answer r. past8 answer (next (told-not c.well-formed-2.ensures (ap not c.if-not-well_formed.false)) r) in
+    let past9 : Past 9 = λ answer r. past8 answer (next (told-not c.well_formed-2.ensures (ap not c.if-not-well_formed.false)) r) in
     past9 _ (here (rw c.frame_positions-positions.ensures at c.if-few-room.true))
 
 pub returns : goal.returns
@@ -147,5 +147,5 @@ returns c =
     let past6 : Past 6 = λ answer r. past5 answer (next (le-ltb _ _ c.if-samples-settings.false) r) in
     let past7 : Past 7 = λ answer r. past6 answer (next c.if-hasty.false r) in
     let past8 : Past 8 = λ answer r. past7 answer (next (told-not c.matches.ensures (ap not c.if-not-matches.false)) r) in
-    let past9 : Past 9 = λ answer r. past8 answer (next (told-not c.well-formed-2.ensures (ap not c.if-not-well_formed.false)) r) in
+    let past9 : Past 9 = λ answer r. past8 answer (next (told-not c.well_formed-2.ensures (ap not c.if-not-well_formed.false)) r) in
     ap Go c.frame_positions-positions.ensures ∙ past9 _ (next (rw c.frame_positions-positions.ensures at c.if-few-room.false) end)

@@ -13,7 +13,7 @@ use Rattle.magnitudes.proofs.batch.run_row.Goals as goal
 
 pub loop-i-init : goal.loop-i-init
 unfolding resonated
-loop-i-init c = (omega arith, rw c.at_rest_lem.ensures (turns-start _ _ _))
+loop-i-init c = (omega arith, rw c.at_rest-delay.ensures (turns-start _ _ _))
 
 pub loop-i-preserved : goal.loop-i-preserved
 loop-i-preserved c =

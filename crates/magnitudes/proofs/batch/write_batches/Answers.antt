@@ -19,7 +19,7 @@ loop-j-init c = (omega arith, turns-start _ _ _, refl)
 pub loop-j-preserved : goal.loop-j-preserved
 loop-j-preserved c =
     let turn = c.loop-j in
-    (omega arith, turns-again _ _ turn.j turn.invariant.1 (omega arith) (c.put_four.ensures ∙ rw (c.roots_of_four.ensures, c.goertzel_power_batch_4-powers.ensures, c.coefficients_from-four.ensures) refl), c.put_four.auto.1.1.0 ∙ turn.invariant.2)
+    (omega arith, turns-again _ _ turn.j turn.invariant.1 (omega arith) (c.put_four.ensures ∙ rw (c.roots_of_four.ensures, c.goertzel_power_batch_4-powers.ensures, c.coefficients_from-four.ensures) refl), c.put_four.auto.room ∙ turn.invariant.2)
 
 pub returns : goal.returns
 returns c = let end = c.loop-j in turns-end _ _ end.j end.invariant.1 (omega arith)

@@ -17,7 +17,7 @@ loop-i-init c = (omega arith, turns-start _ _ _, refl, refl)
 pub loop-i-preserved : goal.loop-i-preserved
 loop-i-preserved c =
     let turn = c.loop-i in
-    (omega arith, turns-again _ _ turn.i turn.invariant.1 (omega arith) (c.step_rows.ensures ∙ rw c.windowed-x.ensures refl), c.step_rows.auto.1.1.0 ∙ turn.invariant.2, c.step_rows.auto.1.1.1.0 ∙ turn.invariant.3)
+    (omega arith, turns-again _ _ turn.i turn.invariant.1 (omega arith) (c.step_rows.ensures ∙ rw c.windowed-x.ensures refl), c.step_rows.auto.last ∙ turn.invariant.2, c.step_rows.auto.before ∙ turn.invariant.3)
 
 pub returns : goal.returns
 returns c = let end = c.loop-i in turns-end _ _ end.i end.invariant.1 (omega arith)

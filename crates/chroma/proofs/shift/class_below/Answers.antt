@@ -1,0 +1,7 @@
+-- Zero stays, and any other goes around downward.
+use Rattle.std.proofs.Common.{rules}
+use Rattle.chroma.proofs.Classes.{minus-class}
+use Rattle.chroma.proofs.shift.class_below.Goals as goal
+
+pub returns : goal.returns
+returns c = minus-class c.args.n c.if-n-eq0.false

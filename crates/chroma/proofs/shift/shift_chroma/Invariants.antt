@@ -1,0 +1,12 @@
+-- The array is written from the front, a bin a turn.
+use Rattle.std.proofs.Common.{ℕ, ◌-◌, ◌^◌, ◌≤◌, pos, refl, arith, le→leb, rules}
+use lib.Ieee.{binary32, sub, of_int, in_float}
+use Rattle.laws.proofs.Front.{Filled, filled-start, filled_more, filled-whole}
+use Rattle.chroma.specs.Shift.{read_at, shifted}
+use Rattle.chroma.proofs.shift.shift_chroma.Given as goal
+
+abbrev pub invariant-loop-bin : goal.invariant-loop-bin
+invariant-loop-bin l = (l.bin ≤ 12) × Filled (λ (k : ℕ). read_at l.chroma (sub binary32 (of_int binary32 (pos k)) l.offset)) l.initial.values l.values l.bin
+
+abbrev pub decreases-loop-bin : goal.decreases-loop-bin
+decreases-loop-bin l = 12 - l.bin

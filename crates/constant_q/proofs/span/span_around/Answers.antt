@@ -1,0 +1,7 @@
+-- What is left of the window is counted from its start.
+use Rattle.std.proofs.Common.{rules}
+use Rattle.constant_q.proofs.Spans.{span-is}
+use Rattle.constant_q.proofs.span.span_around.Goals as goal
+
+pub returns : goal.returns
+returns c = let a = c.args in span-is a.size a.centre a.samples c.requires c.less-start.ensures c.fewer-count.ensures

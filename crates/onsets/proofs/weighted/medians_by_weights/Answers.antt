@@ -1,0 +1,24 @@
+-- A bin a turn; the work numbers end zeroed each time.
+use borrow.Author.Rules.{rules}
+use mathlib.Core.Path.{refl, ap, ◌∙◌}
+use native.Mathlib.Omega.{arith}
+use Prim.Native.Nat.{ℕ, ◌≤◌, ◌-◌}
+use mathlib.Core.List.{List}
+use lib.Ieee.{Float}
+use lib.ListN.{take}
+use Rattle.laws.specs.Front.{list}
+use Rattle.laws.proofs.Front.{Filled, filled-start, filled_more, filled-whole}
+use Rattle.medians.specs.Median.{median_of}
+use Rattle.onsets.specs.Weighted.{weighted_at, weighted_medians}
+use Rattle.onsets.proofs.Emptied.{Emptied, emptied-start, emptied-again, written_back}
+use Rattle.onsets.proofs.weighted.medians_by_weights.Goals as goal
+
+pub loop-bin-init : goal.loop-bin-init
+loop-bin-init c = (omega arith, emptied-start _ _, filled-start _ _)
+
+pub loop-bin-preserved : goal.loop-bin-preserved
+loop-bin-preserved c = (omega arith, emptied-again _ c.loop-bin.invariant.1 (omega arith) c.weigh_bin.ensures c.select.ensures.1, rw (c.select.ensures.0 ∙ ap (λ (m : List Float). median_of (take c.args.count m)) c.weigh_bin.ensures ∙ ap median_of (written_back _ c.args.count _)) (filled_more _ _ _ c.loop-bin.bin c.loop-bin.invariant.2 (omega arith)))
+
+pub returns : goal.returns
+unfolding weighted_medians
+returns c = (filled-whole _ _ _ c.loop-bin.bin 12 c.loop-bin.invariant.2 (omega arith) refl, c.loop-bin.invariant.1.ended (omega arith))

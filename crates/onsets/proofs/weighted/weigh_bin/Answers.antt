@@ -1,0 +1,23 @@
+-- The work numbers are written from the front, a frame a turn.
+use native.Mathlib.Omega.{arith}
+use Prim.Native.Nat.{◌≤◌, ◌-◌}
+use Rattle.laws.proofs.Front.{Filled, filled-start, filled_more, filled-to}
+use Rattle.onsets.specs.Weighted.{weighted_at}
+use borrow.Author.Rules.{rules}
+use Rattle.onsets.proofs.weighted.weigh_bin.Goals as goal
+
+pub loop-j-init : goal.loop-j-init
+loop-j-init c = (omega arith, filled-start _ _)
+
+pub bounds-work-j : goal.bounds-work-j
+bounds-work-j c = let l = c.loop-j.invariant.1.long in omega arith
+
+pub loop-j-preserved : goal.loop-j-preserved
+unfolding weighted_at
+loop-j-preserved c = let turn = c.loop-j in (omega arith, rw c.weight_from.ensures (filled_more _ _ _ turn.j turn.invariant.1 (omega arith)))
+
+pub shape_of-work : goal.shape_of-work
+shape_of-work c = c.loop-j.invariant.1.long
+
+pub returns : goal.returns
+returns c = filled-to _ _ _ c.loop-j.j c.args.count c.loop-j.invariant.1 (omega arith)

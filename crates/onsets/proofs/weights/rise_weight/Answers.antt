@@ -1,0 +1,9 @@
+-- The callee's definition, put in.
+use lib.Ieee.{of_bits}
+use Rattle.onsets.specs.Onsets.{rise_weight}
+use borrow.Author.Rules.{rules}
+use Rattle.onsets.proofs.weights.rise_weight.Goals as goal
+
+pub returns : goal.returns
+unfolding rise_weight of_bits
+returns c = rw c.larger.ensures

@@ -1,0 +1,16 @@
+-- A profile a turn.
+use borrow.Author.Rules.{rules}
+use mathlib.Core.Path.{◌≡◌}
+use native.Mathlib.Omega.{arith}
+use Prim.Native.Nat.{◌≤◌, ◌-◌}
+use lib.Ieee.{of_bits}
+use Rattle.laws.specs.Turns.{turns}
+use Rattle.laws.proofs.Turns.{turns-start, turns-again, turns-end}
+use Rattle.scores.specs.inside.Modes.{mode_turn, mode_sums}
+use Rattle.scores.proofs.scoring.sum_mode.Given as goal
+
+abbrev pub invariant-loop-p : goal.invariant-loop-p
+invariant-loop-p l = (l.p ≤ 4) × (turns (mode_turn l.away l.divisors l.mode) (4 - l.p) l.p l.sums ≡ mode_sums l.away l.divisors l.mode)
+
+abbrev pub decreases-loop-p : goal.decreases-loop-p
+decreases-loop-p l = 4 - l.p

@@ -1,0 +1,16 @@
+-- Each way out of a turn is a law of `Shortens`.
+use mathlib.Core.Path.{◌≡◌, refl, ◌∙◌}
+use Prim.Native.Nat.{ℕ, ◌+◌, ◌-◌}
+use native.Mathlib.Omega.{arith}
+use Rattle.timeline.specs.Segments.{segments_in, lent_segments}
+use Rattle.timeline.specs.inside.Segments.{segment_rows}
+use Rattle.shortening.specs.Shorten.{first_short}
+use Rattle.shortening.proofs.Searches.{first-there}
+use Rattle.shortening.proofs.Shortens.{settled-none, taken-few, found-there, Gap, gap-start, now-room, back-two, back-room, back-few, more_room, more-few, gap_back, gap_more, gap-end}
+use Rattle.shortening.proofs.shorten.shorten_segments.Given as goal
+
+abbrev pub invariant-loop-done : goal.invariant-loop-done
+invariant-loop-done l = Gap l.least l.count (segment_rows l.initial.starts l.initial.ends l.initial.keys l.initial.confidences l.initial.counts) (segment_rows l.starts l.ends l.keys l.confidences l.counts) l.done l.next
+
+abbrev pub decreases-loop-done : goal.decreases-loop-done
+decreases-loop-done l = l.count - l.next + (l.count - l.next) + l.done

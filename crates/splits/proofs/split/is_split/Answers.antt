@@ -1,0 +1,9 @@
+-- Two tests of what the calls read, joined.
+use borrow.Author.Rules.{rules}
+use Rattle.splits.specs.Splits.{splits}
+use Rattle.splits.specs.inside.Columns.{splits_in}
+use Rattle.splits.proofs.split.is_split.Goals as goal
+
+pub returns : goal.returns
+unfolding splits_in splits
+returns c = rw (c.same_key.ensures, c.stored_key-other.ensures, c.stored_key-key.ensures)
