@@ -1,6 +1,4 @@
 -- The loop's invariant: what was counted and noted after i numbers.
-use mathlib.Core.Bool.{not}
-use mathlib.Core.Path.{ap}
 use borrow.Author.Rules.{rules}
 use borrow.Author.Tests.{not-true, not-false}
 use mathlib.Core.List.{List}
@@ -56,22 +54,22 @@ bounds-known-at-then-not-known-at c =
 pub bounds-order-met : goal.bounds-order-met
 bounds-order-met c =
     let below : get_or (c.args.numbers.now) c.loop-i.i 0 < 24 = c.requires c.loop-i.i (c.loop-i-test.true) in
-    unmet-fits (c.args.numbers.now) _ _ _ _ _ c.loop-i.invariant (c.loop-i-test.true) (below) _ (ap not c.if-not-known-at.true)
+    unmet-fits (c.args.numbers.now) _ _ _ _ _ c.loop-i.invariant (c.loop-i-test.true) (below) _ c.if-not-known-at.true
 
 pub overflow_add-met : goal.overflow_add-met
 overflow_add-met c =
     let below : get_or (c.args.numbers.now) c.loop-i.i 0 < 24 = c.requires c.loop-i.i (c.loop-i-test.true) in
-    omega (arith, unmet-fits (c.args.numbers.now) _ _ _ _ _ c.loop-i.invariant (c.loop-i-test.true) (below) _ (ap not c.if-not-known-at.true))
+    omega (arith, unmet-fits (c.args.numbers.now) _ _ _ _ _ c.loop-i.invariant (c.loop-i-test.true) (below) _ c.if-not-known-at.true)
 
 pub loop-i-preserved-then-not-known-at : goal.loop-i-preserved-then-not-known-at
 loop-i-preserved-then-not-known-at c =
     let below : get_or (c.args.numbers.now) c.loop-i.i 0 < 24 = c.requires c.loop-i.i (c.loop-i-test.true) in
-    counted-new (c.args.numbers.now) _ _ _ _ _ c.loop-i.invariant (c.loop-i-test.true) (below) _ (ap not c.if-not-known-at.true)
+    counted-new (c.args.numbers.now) _ _ _ _ _ c.loop-i.invariant (c.loop-i-test.true) (below) _ c.if-not-known-at.true
 
 pub loop-i-preserved : goal.loop-i-preserved
 loop-i-preserved c =
     let below : get_or (c.args.numbers.now) c.loop-i.i 0 < 24 = c.requires c.loop-i.i (c.loop-i-test.true) in
-    counted-known (c.args.numbers.now) _ _ _ _ _ c.loop-i.invariant (c.loop-i-test.true) (below) _ (ap not c.if-not-known-at.false)
+    counted-known (c.args.numbers.now) _ _ _ _ _ c.loop-i.invariant (c.loop-i-test.true) (below) _ c.if-not-known-at.false
 
 pub returns : goal.returns
 returns c = counted-all c.args.numbers.now _ _ _ _ c.loop-i.i c.loop-i.invariant c.loop-i-test.false

@@ -21,27 +21,27 @@ loop-j-init c = (omega arith, refl)
 
 pub offset_bounds-tally-key : goal.offset_bounds-tally-key
 offset_bounds-tally-key c =
-    let below : get_or (c.args.t1).order c.loop-j.j 0 < 24 = c.requires.2 c.loop-j.j (c.loop-j-test.true) in
+    let below : get_or (c.args.tally).order c.loop-j.j 0 < 24 = c.requires.2 c.loop-j.j (c.loop-j-test.true) in
     omega (arith, below)
 
 pub bounds-tally-key : goal.bounds-tally-key
 bounds-tally-key c =
-    let below : get_or (c.args.t1).order c.loop-j.j 0 < 24 = c.requires.2 c.loop-j.j (c.loop-j-test.true) in
+    let below : get_or (c.args.tally).order c.loop-j.j 0 < 24 = c.requires.2 c.loop-j.j (c.loop-j-test.true) in
     below
 
 pub loop-j-preserved-then-most-votes : goal.loop-j-preserved-then-most-votes
 loop-j-preserved-then-most-votes c =
-    let again : {s : Standing ℕ} → s ≡ step (c.args.t1) (leads c.loop-j.leading c.loop-j.most) (get_or (c.args.t1).order c.loop-j.j 0) → fold (step (c.args.t1)) s (slice (c.loop-j.j + 1) (c.args.t1).met (c.args.t1).order) ≡ fold (step (c.args.t1)) (leads 0 0) (slice 0 (c.args.t1).met (c.args.t1).order) = λ e. fold-again (step (c.args.t1)) (c.args.t1).order (c.args.t1).met c.loop-j.j 0 c.loop-j.invariant.1 (c.loop-j-test.true) c.requires.1 e in
-    (omega (arith, c.loop-j-test.true), again (rw (le-leb _ _ c.if-most-votes.true)))
+    let again : (s : Standing ℕ) → s ≡ step (c.args.tally) (leads c.loop-j.leading c.loop-j.most) (get_or (c.args.tally).order c.loop-j.j 0) → fold (step (c.args.tally)) s (slice (c.loop-j.j + 1) (c.args.tally).met (c.args.tally).order) ≡ fold (step (c.args.tally)) (leads 0 0) (slice 0 (c.args.tally).met (c.args.tally).order) = λ w0 e. fold-again (step (c.args.tally)) (c.args.tally).order (c.args.tally).met c.loop-j.j 0 c.loop-j.invariant.1 (c.loop-j-test.true) c.requires.1 e in
+    (omega (arith, c.loop-j-test.true), again _ (rw (le-leb _ _ c.if-most-votes.true)))
 
 pub loop-j-preserved : goal.loop-j-preserved
 loop-j-preserved c =
-    let again : {s : Standing ℕ} → s ≡ step (c.args.t1) (leads c.loop-j.leading c.loop-j.most) (get_or (c.args.t1).order c.loop-j.j 0) → fold (step (c.args.t1)) s (slice (c.loop-j.j + 1) (c.args.t1).met (c.args.t1).order) ≡ fold (step (c.args.t1)) (leads 0 0) (slice 0 (c.args.t1).met (c.args.t1).order) = λ e. fold-again (step (c.args.t1)) (c.args.t1).order (c.args.t1).met c.loop-j.j 0 c.loop-j.invariant.1 (c.loop-j-test.true) c.requires.1 e in
-    (omega (arith, c.loop-j-test.true), again (rw (lt-leb _ _ c.if-most-votes.false)))
+    let again : (s : Standing ℕ) → s ≡ step (c.args.tally) (leads c.loop-j.leading c.loop-j.most) (get_or (c.args.tally).order c.loop-j.j 0) → fold (step (c.args.tally)) s (slice (c.loop-j.j + 1) (c.args.tally).met (c.args.tally).order) ≡ fold (step (c.args.tally)) (leads 0 0) (slice 0 (c.args.tally).met (c.args.tally).order) = λ w0 e. fold-again (step (c.args.tally)) (c.args.tally).order (c.args.tally).met c.loop-j.j 0 c.loop-j.invariant.1 (c.loop-j-test.true) c.requires.1 e in
+    (omega (arith, c.loop-j-test.true), again _ (rw (lt-leb _ _ c.if-most-votes.false)))
 
 pub returns : goal.returns
 unfolding most_voted last_largest
 returns c =
-    let t = c.args.t1 in
+    let t = c.args.tally in
     ap (leading_key 0) (fold_end (step t) t.order t.met c.loop-j.j c.loop-j.invariant.1 (omega (arith, c.loop-j-test.false, c.loop-j.invariant.0)))
     ∙ from_zero _ (slice 0 t.met t.order)

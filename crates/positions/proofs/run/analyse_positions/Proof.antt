@@ -29,7 +29,7 @@ analyse-frames-requires : tie.Need-analyse-frames-requires
 analyse-frames-requires c κs =
     let fill = c.before.before.before.before.before.before.before.before.before.before.before.before.before.before.before.before.before.before.before.before.before in
     let start = fill.before.before.before.before.before.before.before.before.before.before.before.before.before.before.before.before.before.before.before.before.before.before.before in
-    stocked-so (asked start) start.args.positions.now (rented start) fill.fill-rows.ensures c.before.before.before.before.before.before.before.before.before.before.before.before.before.before.frames.given.1 start.requires
+    stocked-so (asked start) start.args.positions (rented start) fill.fill-rows.ensures c.before.before.before.before.before.before.before.before.before.before.before.before.before.before.frames.given.1 start.requires
 
 same_length : tie.Need-same-length
 same_length c = search rules
@@ -44,7 +44,7 @@ returns : tie.Need-returns
 returns c =
     let fill = c.before.before.before.before.before.before.before.before.before in
     let start = fill.before.before.before.before.before.before.before.before.before.before.before.before.before.before.before.before.before.before.before.before.before.before.before in
-    not-finite-so (asked start) start.args.positions.now (rented start) fill.fill-rows.ensures c.before.before.position.given.1 c.keyless.ensures
+    not-finite-so (asked start) start.args.positions (rented start) fill.fill-rows.ensures c.before.before.position.given.1 c.keyless.ensures
 
 same-length-4 : tie.Need-same-length-4
 same-length-4 c = c.before.before.before.before.before.before.before.before.before.before.before.before.before.before.before.before.before.before.before.before.before.before.before.before.before.before.before.before.before.before.before.before.before.before.before.before.before.before.before.before.before.centres.given
@@ -90,7 +90,7 @@ returns-2 c =
     let told = c.before.before.before.before.before.before.before.before.before.before.before.before.before.before.before.before.before.before.before.before in
     let fill = told.before.before.before.before.before.before.before.before.before.before.before.before.before.before.before.before.before.before.before.before.before.before in
     let start = fill.before.before.before.before.before.before.before.before.before.before.before.before.before.before.before.before.before.before.before.before.before.before.before in
-    all_so (asked start) start.args.positions.now (rented start) fill.fill-rows.ensures told.before.before.before.before.before.before.before.before.before.before.before.before.before.before.before.frames.given.1 told.analyse-frames.ensures
+    all_so (asked start) start.args.positions (rented start) fill.fill-rows.ensures told.before.before.before.before.before.before.before.before.before.before.before.before.before.before.before.frames.given.1 told.analyse-frames.ensures
 
 pub analyse-positions-spec : {M : Type 1} → statement M
 analyse-positions-spec =

@@ -1,0 +1,41 @@
+-- The loop's invariant: the keys that are left lead from who leads so far to the last of the largest.
+use borrow.Author.Rules.{rules}
+use mathlib.Core.Path.{◌≡◌, refl, ◌∙◌}
+use Prim.Native.Nat.{ℕ, ◌≤◌, ◌-◌, ◌<◌}
+use native.Mathlib.Omega.{arith}
+use lib.ListN.{get_or}
+use lib.Seq.{slice}
+use lib.Ieee.{Float, nan}
+use Rattle.laws.specs.Lists.{fold}
+use Rattle.laws.specs.Order.{total_order}
+use Rattle.laws.specs.Leader.{Standing, outdone, last_largest}
+use Rattle.laws.proofs.Lists.{fold-again, fold_end}
+use Rattle.laws.proofs.Leader.{outdone-same}
+use Rattle.alternates.specs.inside.Noted.{standing_of, leader_in}
+use Rattle.alternates.specs.declared.alternate.Noted.{Noted}
+use Rattle.alternates.proofs.alternate.find_leader.Invariants.{step}
+use Rattle.alternates.proofs.alternate.find_leader.Goals as goal
+
+pub loop-j-init : goal.loop-j-init
+unfolding leader_in last_largest
+loop-j-init c = (omega arith, c.requires.0, refl)
+
+pub offset_bounds-noted-key : goal.offset_bounds-noted-key
+offset_bounds-noted-key c =
+    let below : get_or (c.args.noted).order c.loop-j.j 0 < 24 = c.requires.3 c.loop-j.j (c.loop-j-test.true) in
+    omega (arith, below)
+
+pub bounds-noted-key : goal.bounds-noted-key
+bounds-noted-key c =
+    let below : get_or (c.args.noted).order c.loop-j.j 0 < 24 = c.requires.3 c.loop-j.j (c.loop-j-test.true) in
+    below
+
+pub loop-j-preserved : goal.loop-j-preserved
+loop-j-preserved c =
+    let led = c.take_lead-rival.ensures ∙ outdone-same total_order _ (λ (key : ℕ). get_or (c.args.noted).sums key nan) (standing_of c.loop-j.rival) _ refl in
+    (omega arith, omega (arith, c.loop-j-test.true), fold-again (step (c.args.noted)) (c.args.noted).order (c.args.noted).met c.loop-j.j 0 c.loop-j.invariant.2 (c.loop-j-test.true) c.requires.2 led)
+
+pub returns : goal.returns
+returns c =
+    let n = c.args.noted in
+    fold_end (step n) n.order n.met c.loop-j.j c.loop-j.invariant.2 (omega (arith, c.loop-j.invariant.1, c.loop-j-test.false))

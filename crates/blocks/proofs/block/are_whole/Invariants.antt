@@ -1,0 +1,16 @@
+-- A row a turn, joined to those before.
+use borrow.Author.Rules.{rules}
+use native.Mathlib.Omega.{arith}
+use Prim.Native.Nat.{ℕ, ◌≤◌, ◌-◌}
+use mathlib.Core.Path.{◌≡◌, refl}
+use lib.ListN.{length, get_or}
+use Rattle.laws.specs.Every.{every, every_entry}
+use Rattle.laws.proofs.Every.{every_more, every-all}
+use Rattle.blocks.specs.inside.Block.{whole_at, all_whole}
+use Rattle.blocks.proofs.block.are_whole.Given as goal
+
+abbrev pub invariant-loop-k : goal.invariant-loop-k
+invariant-loop-k l = (l.k ≤ length l.lengths) × (l.sofar ≡ every (λ (i : ℕ). whole_at l.samples l.centre l.hop (get_or l.lengths i 0)) l.k)
+
+abbrev pub decreases-loop-k : goal.decreases-loop-k
+decreases-loop-k l = length l.lengths - l.k

@@ -1,0 +1,26 @@
+-- A row a turn.
+use borrow.Author.Rules.{rules}
+use native.Mathlib.Omega.{arith}
+use Prim.Native.Nat.{ℕ, ◌≤◌, ◌-◌}
+use mathlib.Core.Path.{◌≡◌, refl}
+use lib.ListN.{length, get_or}
+use lib.Ieee.{Float, nan, binary32, of_bits, mul}
+use mathlib.Core.List.{List}
+use Rattle.laws.specs.Turns.{turns}
+use Rattle.laws.proofs.Turns.{turns-start, turns-again, turns-end}
+use Rattle.filters.specs.Classes.{class_added, added_by_class}
+use Rattle.goertzel.specs.Goertzel.{contribution_of, contributions_by_class}
+use Rattle.goertzel.proofs.sum_contributions.Goals as goal
+
+pub loop-k-init : goal.loop-k-init
+unfolding contributions_by_class added_by_class of_bits
+loop-k-init c = (omega arith, turns-start _ _ _)
+
+pub loop-k-preserved : goal.loop-k-preserved
+unfolding class_added
+loop-k-preserved c =
+    let turn = c.loop-k in
+    (omega arith, turns-again _ _ turn.k turn.invariant.1 c.loop-k-test.true (rw (c.weighted.ensures, c.class_at-class.ensures.0, c.contribution.ensures, c.row_at-row.ensures) refl))
+
+pub returns : goal.returns
+returns c = let last = c.loop-k in turns-end _ _ last.k last.invariant.1 (omega arith)

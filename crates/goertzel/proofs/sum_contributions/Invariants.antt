@@ -1,0 +1,19 @@
+-- A row a turn.
+use borrow.Author.Rules.{rules}
+use native.Mathlib.Omega.{arith}
+use Prim.Native.Nat.{ℕ, ◌≤◌, ◌-◌}
+use mathlib.Core.Path.{◌≡◌, refl}
+use lib.ListN.{length, get_or}
+use lib.Ieee.{Float, nan, binary32, of_bits, mul}
+use mathlib.Core.List.{List}
+use Rattle.laws.specs.Turns.{turns}
+use Rattle.laws.proofs.Turns.{turns-start, turns-again, turns-end}
+use Rattle.filters.specs.Classes.{class_added, added_by_class}
+use Rattle.goertzel.specs.Goertzel.{contribution_of, contributions_by_class}
+use Rattle.goertzel.proofs.sum_contributions.Given as goal
+
+abbrev pub invariant-loop-k : goal.invariant-loop-k
+invariant-loop-k l = (l.k ≤ length l.magnitudes) × (turns (λ (j : ℕ) (s : List Float). class_added l.lowest j (mul binary32 (contribution_of l.magnitudes l.lowest j) (get_or l.weights j nan)) s) (length l.magnitudes - l.k) l.k l.sums ≡ contributions_by_class l.lowest l.magnitudes l.weights)
+
+abbrev pub decreases-loop-k : goal.decreases-loop-k
+decreases-loop-k l = length l.magnitudes - l.k

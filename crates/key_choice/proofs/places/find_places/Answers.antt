@@ -1,0 +1,22 @@
+-- A key a turn.
+use borrow.Author.Rules.{rules}
+use mathlib.Core.Path.{◌≡◌, ap, ◌∙◌}
+use native.Mathlib.Omega.{arith}
+use Prim.Native.Nat.{ℕ, ◌≤◌, ◌-◌}
+use lib.Ieee.{of_bits, neg, div}
+use Rattle.laws.specs.Turns.{turns}
+use Rattle.laws.proofs.Turns.{turns-start, turns-again, turns-end}
+use Rattle.key_choice.specs.Places.{placed, candidate_at, places_of}
+use Rattle.key_choice.specs.declared.places.Places.{Places}
+use Rattle.keys.specs.Numbers.{tonics}
+use Rattle.key_choice.proofs.places.find_places.Goals as goal
+
+pub loop-turn-init : goal.loop-turn-init
+unfolding of_bits neg div places_of tonics
+loop-turn-init c = (omega arith, turns-start _ _ _)
+
+pub loop-turn-preserved : goal.loop-turn-preserved
+loop-turn-preserved c = (omega arith, turns-again _ 24 c.loop-turn.turn c.loop-turn.invariant.1 c.loop-turn-test.true (c.enter-places.ensures ∙ ap (placed c.loop-turn.places) c.candidate.ensures))
+
+pub returns : goal.returns
+returns c = turns-end _ 24 c.loop-turn.turn c.loop-turn.invariant.1 c.loop-turn-test.false

@@ -1,0 +1,14 @@
+-- `is_whole` meets its contract: a test a turn.
+use Rattle.std.proofs.Common.{◌≡◌, ℕ, ◌+◌, ◌-◌, ◌≤◌, Bool, true, false, ◌&&◌, length, get_or, refl, ap, ◌∙◌, ap₂, arith, rules}
+use lib.Ieee.{nan}
+use lib.Ieee.Scale.{finite}
+use Rattle.laws.specs.Every.{every, every_entry}
+use Rattle.laws.proofs.Every.{every_more}
+use Rattle.one_frame.specs.Frame.{whole}
+use Rattle.one_frame.proofs.frame.is_whole.Given as goal
+
+abbrev pub invariant-loop-i : goal.invariant-loop-i
+invariant-loop-i l = (l.i ≤ 12) × (l.sofar ≡ (l.initial.sofar && every (λ (k : ℕ). finite (get_or l.values k nan)) l.i))
+
+abbrev pub decreases-loop-i : goal.decreases-loop-i
+decreases-loop-i l = 12 - l.i

@@ -1,0 +1,6 @@
+-- The two keys compared are the definition's.
+use borrow.Author.Rules.{rules}
+use Rattle.replayed.proofs.same_value.Goals as goal
+
+pub returns : goal.returns
+returns c = rw (c.order_key.ensures, c.order_key-2.ensures)

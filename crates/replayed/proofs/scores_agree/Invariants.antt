@@ -1,0 +1,16 @@
+-- A score a turn.
+use borrow.Author.Rules.{rules}
+use mathlib.Core.Path.{◌≡◌}
+use native.Mathlib.Omega.{arith}
+use Prim.Native.Nat.{◌≤◌, ◌-◌}
+use mathlib.Core.Bool.{true}
+use Rattle.laws.specs.Turns.{turns}
+use Rattle.laws.proofs.Turns.{turns-start, turns-again, turns-end}
+use Rattle.replayed.specs.Records.{score_turn, same_scores}
+use Rattle.replayed.proofs.scores_agree.Given as goal
+
+abbrev pub invariant-loop-k : goal.invariant-loop-k
+invariant-loop-k l = (l.k ≤ 24) × (turns (score_turn l.bytes l.start l.scores) (24 - l.k) l.k l.same ≡ turns (score_turn l.bytes l.start l.scores) 24 0 true)
+
+abbrev pub decreases-loop-k : goal.decreases-loop-k
+decreases-loop-k l = 24 - l.k

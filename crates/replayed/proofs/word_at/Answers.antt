@@ -1,0 +1,8 @@
+-- The four bytes are the definition's.
+use borrow.Author.Rules.{rules}
+use Rattle.replayed.specs.Records.{word_at}
+use Rattle.replayed.proofs.word_at.Goals as goal
+
+pub returns : goal.returns
+unfolding word_at
+returns c = c.word_of.ensures

@@ -1,0 +1,6 @@
+-- The rows that the span asks for.
+use borrow.Author.Rules.{rules}
+use Rattle.rooms.proofs.rows_lack.Goals as goal
+
+pub returns : goal.returns
+returns c = rw (c.rows_asked-asked.ensures, c.span_of.ensures)
