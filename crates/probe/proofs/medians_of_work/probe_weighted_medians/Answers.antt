@@ -11,8 +11,7 @@ use lib.ListN.{length}
 use lib.Ieee.{of_bits}
 use Rattle.laws.proofs.Table.{none_of}
 use Rattle.probe.specs.Medians.{unfit_any}
-use Rattle.probe.proofs.medians_of_work.probe_weighted_medians.Statement.{statement}
-use Rattle.probe.proofs.medians_of_work.probe_weighted_medians.Tie as tie
+use Rattle.probe.proofs.medians_of_work.probe_weighted_medians.Goals as goal
 
 -- past the test all is there
 fit : (count frames energies work : ℕ) → unfit_any count frames energies work ≡ false → (0 < count) × (count ≤ frames) × (count ≤ energies) × (count ≤ work)
@@ -21,18 +20,12 @@ fit count frames energies work t =
     let some = eqb-false count 0 (refused 0) in
     (omega arith, ltb-false frames count (refused 1), ltb-false energies count (refused 2), ltb-false work count (refused 3))
 
-returns : tie.Need-returns
+pub returns-then-count-frames : goal.returns-then-count-frames
 unfolding of_bits
-returns c = (rw c.if1.true refl, rw c.if1.true refl)
+returns-then-count-frames c = (rw c.if-count-frames.true refl, rw c.if-count-frames.true refl)
 
-weighted-medians-requires : tie.Need-weighted-medians-requires
-weighted-medians-requires c κs = let args = c.before.before.before.before.args in fit args.count (length args.frames.now) (length args.energies.now) (length args.work.now) c.before.if1.false
+pub weighted_medians-values-requires : goal.weighted_medians-values-requires
+weighted_medians-values-requires c = let args = c.args in fit args.count (length args.frames.now) (length args.energies.now) (length args.work.now) c.if-count-frames.false
 
-same_length : tie.Need-same-length
-same_length c = search rules
-
-returns-2 : tie.Need-returns-2
-returns-2 c = let found = c.before.before in (rw found.before.before.if1.false found.weighted-medians.ensures.0, rw found.before.before.if1.false found.weighted-medians.ensures.1)
-
-pub probe-weighted-medians-spec : {M : Type 1} → statement M
-probe-weighted-medians-spec = tie.close (tie.spec returns weighted-medians-requires same_length returns-2)
+pub returns : goal.returns
+returns c = (rw c.if-count-frames.false c.weighted_medians-values.ensures.0, rw c.if-count-frames.false c.weighted_medians-values.ensures.1)
