@@ -44,7 +44,7 @@ pub raise-requires : goal.raise-requires
 raise-requires c =
     let ready-card : Ready c.args.card.now most_segments c.args.l = ready c.args.card.now most_segments c.args.l c.requires.0 in
     let timed = c.add_times.ensures in
-    subst (λ (xs : List ℕ). (24 < length xs) × (get_or xs 24 0 + 1 < 2 ^ 64)) (sym timed) (omega (arith, more-long (key_time ((meaning_on c.args.l (bits_of_bytes c.args.card.now)))) c.args.numbers.now), first_small c.args.l ((meaning_on c.args.l (bits_of_bytes c.args.card.now))) ((ready-card).sound) ((ready-card).well-formed) _ c.requires.1)
+    subst (λ (xs : List ℕ). (24 < length xs) × (get_or xs 24 0 + 1 < 2 ^ 64)) (sym timed) (omega (arith, more-long (key_time ((meaning_on c.args.l (bits_of_bytes c.args.card.now)))) c.args.numbers.now), first_small c.args.l ((meaning_on c.args.l (bits_of_bytes c.args.card.now))) ((ready-card).sound) ((ready-card).good) _ c.requires.1)
 
 pub raise-requires-2 : goal.raise-requires-2
 raise-requires-2 c =
@@ -53,7 +53,7 @@ raise-requires-2 c =
     let keyless-is : c.keyless-without.result ≡ keyless_of ((meaning_on c.args.l (bits_of_bytes c.args.card.now))).header = c.keyless-without.ensures ∙ ap keyless_of c.header_on.ensures in
     let m = (meaning_on c.args.l (bits_of_bytes c.args.card.now)) in
     subst (λ (xs : List ℕ). (25 < length xs) × (get_or xs 25 0 + c.keyless-without.result < 2 ^ 64)) (sym (first-is))
-    (omega (arith, first-long c.args.l m ((ready-card).sound) ((ready-card).well-formed) (c.args.numbers.now) c.requires.1), second-small c.args.l m ((ready-card).sound) ((ready-card).well-formed) (c.args.numbers.now) c.requires.1 _ (omega (arith, keyless-is, few m.header)))
+    (omega (arith, first-long c.args.l m ((ready-card).sound) ((ready-card).good) (c.args.numbers.now) c.requires.1), second-small c.args.l m ((ready-card).sound) ((ready-card).good) (c.args.numbers.now) c.requires.1 _ (omega (arith, keyless-is, few m.header)))
 
 pub shape_of-numbers : goal.shape_of-numbers
 shape_of-numbers c =
@@ -62,7 +62,7 @@ shape_of-numbers c =
     let keyless-is : c.keyless-without.result ≡ keyless_of ((meaning_on c.args.l (bits_of_bytes c.args.card.now))).header = c.keyless-without.ensures ∙ ap keyless_of c.header_on.ensures in
     let all-is : c.raise-2.new.numbers ≡ more (card_number ((meaning_on c.args.l (bits_of_bytes c.args.card.now)))) (c.args.numbers.now) = c.raise-2.ensures
     ∙ ap₂ (λ (n : ℕ) (xs : List ℕ). raised 25 n xs) (keyless-is) (first-is)
-    ∙ all-added c.args.l ((meaning_on c.args.l (bits_of_bytes c.args.card.now))) ((ready-card).sound) ((ready-card).well-formed) (c.args.numbers.now) c.requires.1 in
+    ∙ all-added c.args.l ((meaning_on c.args.l (bits_of_bytes c.args.card.now))) ((ready-card).sound) ((ready-card).good) (c.args.numbers.now) c.requires.1 in
     ap length (all-is) ∙ more-long _ _ ∙ sym c.requires.1.size
 
 pub returns : goal.returns
@@ -72,5 +72,5 @@ returns c =
     let keyless-is : c.keyless-without.result ≡ keyless_of ((meaning_on c.args.l (bits_of_bytes c.args.card.now))).header = c.keyless-without.ensures ∙ ap keyless_of c.header_on.ensures in
     let all-is : c.raise-2.new.numbers ≡ more (card_number ((meaning_on c.args.l (bits_of_bytes c.args.card.now)))) (c.args.numbers.now) = c.raise-2.ensures
     ∙ ap₂ (λ (n : ℕ) (xs : List ℕ). raised 25 n xs) (keyless-is) (first-is)
-    ∙ all-added c.args.l ((meaning_on c.args.l (bits_of_bytes c.args.card.now))) ((ready-card).sound) ((ready-card).well-formed) (c.args.numbers.now) c.requires.1 in
+    ∙ all-added c.args.l ((meaning_on c.args.l (bits_of_bytes c.args.card.now))) ((ready-card).sound) ((ready-card).good) (c.args.numbers.now) c.requires.1 in
     all-is

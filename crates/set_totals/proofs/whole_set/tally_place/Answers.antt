@@ -22,7 +22,6 @@ use Rattle.set_totals.proofs.whole_set.tally_place.Goals as goal
 
 pub returns-then-all_zero : goal.returns-then-all_zero
 returns-then-all_zero c =
-    let c.args.place.now = c.args.place.now in
     let zero = told c.all_zero.ensures c.if-all_zero.true in
     (free-is c.args.place.now zero, free-adds c.args.place.now zero c.args.numbers.now c.requires.1.size)
 
@@ -52,9 +51,9 @@ shape_of-numbers c =
     let part-is : take c.card_end-end.result (c.args.place.now) ≡ card_in (c.args.place.now) = ap (λ (n : ℕ). take n (c.args.place.now)) c.card_end-end.ensures ∙ take_min (length_on (c.args.place.now)) (c.args.place.now) in
     let not_free : all_zero (c.args.place.now) ≡ false = told c.all_zero.ensures c.if-all_zero.false in
     let judged-is : judged_of (card_in (c.args.place.now)) most_segments ≡ c.judge_card-judged.result = sym (c.judge_card-judged.ensures ∙ ap (λ (bytes : List ℕ). judged_of bytes most_segments) (part-is)) in
-    let readable : judged_of (card_in (c.args.place.now)) most_segments ≡ Readable (c.judged-in-Readable-1.given.0.0) = judged-is ∙ c.in-Readable.is in
+    let readable : judged_of (card_in (c.args.place.now)) most_segments ≡ Readable (c.in-Readable.l) = judged-is ∙ c.in-Readable.is in
     let added : c.add_numbers.new.numbers ≡ more (read_number (read_whole (card_in (c.args.place.now)))) c.args.numbers.now = c.add_numbers.ensures
-    ∙ ap (λ (bytes : List ℕ). more (card_number (meaning_on (c.judged-in-Readable-1.given.0.0) (bits_of_bytes bytes))) c.args.numbers.now) (part-is)
+    ∙ ap (λ (bytes : List ℕ). more (card_number (meaning_on (c.in-Readable.l) (bits_of_bytes bytes))) c.args.numbers.now) (part-is)
     ∙ read-adds (c.args.place.now) (not_free) (readable) c.args.numbers.now in
     ap length (added) ∙ more-long _ _ ∙ sym c.requires.1.size
 
@@ -66,8 +65,8 @@ returns-in-Readable c =
     ∙ drop_min (length_on (c.args.place.now)) (c.args.place.now) in
     let not_free : all_zero (c.args.place.now) ≡ false = told c.all_zero.ensures c.if-all_zero.false in
     let judged-is : judged_of (card_in (c.args.place.now)) most_segments ≡ c.judge_card-judged.result = sym (c.judge_card-judged.ensures ∙ ap (λ (bytes : List ℕ). judged_of bytes most_segments) (part-is)) in
-    let readable : judged_of (card_in (c.args.place.now)) most_segments ≡ Readable (c.judged-in-Readable-1.given.0.0) = judged-is ∙ c.in-Readable.is in
+    let readable : judged_of (card_in (c.args.place.now)) most_segments ≡ Readable (c.in-Readable.l) = judged-is ∙ c.in-Readable.is in
     let added : c.add_numbers.new.numbers ≡ more (read_number (read_whole (card_in (c.args.place.now)))) c.args.numbers.now = c.add_numbers.ensures
-    ∙ ap (λ (bytes : List ℕ). more (card_number (meaning_on (c.judged-in-Readable-1.given.0.0) (bits_of_bytes bytes))) c.args.numbers.now) (part-is)
+    ∙ ap (λ (bytes : List ℕ). more (card_number (meaning_on (c.in-Readable.l) (bits_of_bytes bytes))) c.args.numbers.now) (part-is)
     ∙ read-adds (c.args.place.now) (not_free) (readable) c.args.numbers.now in
     (ap not (c.all_zero-in-Readable.ensures ∙ ap all_zero (rest-is)) ∙ read_is (c.args.place.now) (not_free) (readable), added)
