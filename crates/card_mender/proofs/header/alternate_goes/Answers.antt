@@ -1,6 +1,5 @@
 -- The header is judged beside the fewest segments.
 use mathlib.Core.Path.{ap, ◌∙◌}
-use borrow.Author.Rules.{rules}
 use Rattle.card.specs.Rules.{header_broken}
 use Rattle.card_mender.specs.Mending.{alternate_goes}
 use Rattle.card_mender.proofs.header.alternate_goes.Goals as goal

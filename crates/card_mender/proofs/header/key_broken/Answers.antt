@@ -1,6 +1,5 @@
 -- The header without its alternate is judged beside the fewest segments.
 use mathlib.Core.Path.{ap₂, ◌∙◌}
-use borrow.Author.Rules.{rules}
 use Rattle.card.specs.Rules.{header_broken}
 use Rattle.card_mender.specs.Mending.{key_broken}
 use Rattle.card_mender.proofs.header.key_broken.Goals as goal

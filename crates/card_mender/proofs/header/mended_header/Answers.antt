@@ -1,7 +1,6 @@
 -- By whether the alternate goes.
 use mathlib.Core.Path.{sym, ap, ◌∙◌}
 use mathlib.Core.Bool.{Bool, cond}
-use borrow.Author.Rules.{rules}
 use Rattle.laws.proofs.Table.{told}
 use Rattle.card.specs.declared.layout.Header.{Header}
 use Rattle.card_mender.specs.Mending.{without_alternate}

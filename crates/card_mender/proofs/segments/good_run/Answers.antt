@@ -4,12 +4,10 @@ use mathlib.Core.Bool.{Bool, cond}
 use Prim.Native.Nat.{ℕ, min, ◌≤◌}
 use native.Mathlib.Nat.{min-le_right, mul-le-mul_right}
 use native.Mathlib.Omega.{arith}
-use borrow.Author.Rules.{rules}
 use borrow.Author.Tests.{eq-eqb, ne_eqb}
 use Rattle.laws.specs.Front.{list}
 use Rattle.bits.specs.Bits.{bits_of_bytes}
 use Rattle.card.specs.Rules.{first_broken}
-use Rattle.card.specs.declared.layout.Segment.{Segment}
 use Rattle.card_form.specs.Form.{segment_width, segment_on}
 use Rattle.card_mender.proofs.Runs.{run_is}
 use Rattle.card_mender.proofs.segments.good_run.Goals as goal

@@ -3,7 +3,6 @@ use mathlib.Core.Path.{◌≡◌, ap, subst, ◌∙◌}
 use Prim.Native.Nat.{ℕ, ◌≤◌, ◌<◌}
 use native.Mathlib.Omega.{arith}
 use lib.ListN.{length}
-use borrow.Author.Rules.{rules}
 use Rattle.bits.specs.Bits.{bits_of_bytes}
 use Rattle.bits.proofs.Digits.{few_bits}
 use Rattle.card_form.specs.Form.{card_size, count_on}

@@ -1,8 +1,5 @@
 -- A pen puts the header, the segments and the filler.
-use Prim.Native.Nat.{ℕ}
-use borrow.Author.Rules.{rules}
 use Rattle.bits.specs.Bits.{bits_of_bytes}
-use Rattle.card.specs.declared.layout.Segment.{Segment}
 use Rattle.card_form.specs.Form.{segment_on}
 use Rattle.card_pen.proofs.Puts.{can-start, can-put, can-end, size-put, card-put}
 use Rattle.card_mender.proofs.write.write_card.Goals as goal
@@ -19,5 +16,5 @@ end_card-filled-requires c = can-end c.args.l c.args.h (segment_on c.args.from (
 pub returns : goal.returns
 returns c = (
   size-put c.args.l c.args.h (segment_on c.args.from (bits_of_bytes c.args.bytes.now)) c.args.count c.requires.0 c.start_card-headed.ensures c.put_segments-last.ensures c.end_card-filled.ensures,
-  card-put c.args.l c.args.h (segment_on c.args.from (bits_of_bytes c.args.bytes.now)) c.args.count c.requires.0 c.start_card-headed.ensures c.put_segments-last.ensures c.end_card-filled.ensures (λ i. (c.slice_known-4-1.given i).fits),
+  card-put c.args.l c.args.h (segment_on c.args.from (bits_of_bytes c.args.bytes.now)) c.args.count c.requires.0 c.start_card-headed.ensures c.put_segments-last.ensures c.end_card-filled.ensures (λ i. (c.type_inv.room i).fits),
 )
