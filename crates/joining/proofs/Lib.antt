@@ -1,3 +1,3 @@
--- What the walk cites.
-mod Fits
+-- What the proofs cite, and what the functions by value do.
+pub mod Fits
 mod Tasks

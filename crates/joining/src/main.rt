@@ -8,10 +8,10 @@ ghost use Rattle.keys.specs.Numbers.{key_at};
 ghost use Rattle.joining.specs.Threes.{three, windows_of_three, shortened_three};
 
 use keys::numbers::key_number;
-use libc::STDOUT_FILENO;
 use numbers::counts::fewer;
 use packed::{milliseconds, number_or};
 use records::{record_at, shorten_records};
+use std::io;
 use timeline::segment::{Segment, emptied_segment};
 use timeline::stored::stored_key;
 
@@ -65,68 +65,78 @@ fn part(start: f64, end: f64, number: u8, windows: u32) -> Segment
 }
 
 // Prints a time in milliseconds.
-fn print_time(time: f64) {
+fn print_time(rt: &impl Print, time: f64) -> io::Result<()> {
     let packed = milliseconds(time, 86400000);
-    io::print_decimal(STDOUT_FILENO, number_or(86400001, packed));
+    let number = number_or(86400001, packed);
+    print!(rt; "{number}")
 }
 
 // Prints a segment: from when to when, its key's number, and how many windows it rests on.
-fn print_segment(segment: Segment) {
-    let key = segment.key;
-    io::write_all(STDOUT_FILENO, b" [");
-    print_time(segment.start);
-    io::write_all(STDOUT_FILENO, b", ");
-    print_time(segment.end);
-    io::write_all(STDOUT_FILENO, b") ");
-    io::print_decimal(STDOUT_FILENO, key_number(key) as u64);
-    io::write_all(STDOUT_FILENO, b" from ");
-    io::print_decimal(STDOUT_FILENO, segment.windows as u64);
+fn print_segment(rt: &impl Print, segment: Segment) -> io::Result<()> {
+    let number = key_number(segment.key);
+    let windows = segment.windows;
+    print!(rt; " [")?;
+    print_time(rt, segment.start)?;
+    print!(rt; ", ")?;
+    print_time(rt, segment.end)?;
+    print!(rt; ") {number} from {windows}")
 }
 
 // Prints a row: how many segments are left, and all three records.
-fn print_row(letter: &[u8], count: usize, first: Segment, second: Segment, third: Segment)
+fn print_row(
+    rt: &impl Print,
+    letter: &[u8],
+    count: usize,
+    first: Segment,
+    second: Segment,
+    third: Segment,
+) -> io::Result<()>
     requires { windows_of_three first second third < 2 ^ 32 }
 {
     let left = shorten_three(12.0, count, first, second, third);
-    io::write_all(STDOUT_FILENO, letter);
-    io::write_all(STDOUT_FILENO, b": ");
-    io::print_decimal(STDOUT_FILENO, left.count as u64);
-    io::write_all(STDOUT_FILENO, b" left:");
-    let one = left.first;
-    let two = left.second;
-    let last = left.third;
-    print_segment(one);
-    print_segment(two);
-    print_segment(last);
-    io::write_all(STDOUT_FILENO, b"\n");
+    let many = left.count;
+    rt.write_all(letter)?;
+    print!(rt; ": {many} left:")?;
+    print_segment(rt, left.first)?;
+    print_segment(rt, left.second)?;
+    print_segment(rt, left.third)?;
+    println!(rt; "")
 }
 
 // Prints a row of three segments that end at these times, from 1, 2 and 4 windows.
-fn print_three(letter: &[u8], first: f64, second: f64, third: f64) {
+fn print_three(
+    rt: &impl Print,
+    letter: &[u8],
+    first: f64,
+    second: f64,
+    third: f64,
+) -> io::Result<()> {
     print_row(
+        rt,
         letter,
         3,
         part(0.0, first, 0, 1),
         part(first, second, 7, 2),
         part(second, third, 9, 4),
-    );
+    )
 }
 
 // Prints a row of two such segments, with an emptied record behind them.
-fn print_two(letter: &[u8], first: f64, second: f64) {
+fn print_two(rt: &impl Print, letter: &[u8], first: f64, second: f64) -> io::Result<()> {
     print_row(
+        rt,
         letter,
         2,
         part(0.0, first, 0, 1),
         part(first, second, 7, 2),
         emptied_segment(),
-    );
+    )
 }
 
-fn main() {
-    print_three(b"c", 10.0, 40.0, 70.0);
-    print_three(b"d", 30.0, 40.0, 70.0);
-    print_three(b"e", 20.0, 30.0, 70.0);
-    print_two(b"f", 30.0, 40.0);
-    print_two(b"g", 12.0, 24.0);
+fn main(rt: HostRuntime) -> io::Result<()> {
+    print_three(&rt, b"c", 10.0, 40.0, 70.0)?;
+    print_three(&rt, b"d", 30.0, 40.0, 70.0)?;
+    print_three(&rt, b"e", 20.0, 30.0, 70.0)?;
+    print_two(&rt, b"f", 30.0, 40.0)?;
+    print_two(&rt, b"g", 12.0, 24.0)
 }

@@ -1,6 +1,6 @@
--- What the walks cite, and the theorems on shortening over records.
+-- What the proofs cite, and the theorems on shortening over records.
 pub mod Tasks
-mod Gap
-mod Places
+pub mod Gap
+pub mod Places
 pub mod Shortened
 pub mod Same

@@ -11,8 +11,8 @@ use mir.Val.{Val, has_ty, WT}
 use types.Logic.{Logic}
 use denote.RattleType.{RattleType}
 use denote.Builtin.{f64, bool}
-use denote.Plain.{bool_vals, bool_tells, bool_makes}
-use denote.Floats.{float_vals, float_tells, float_makes}
+use denote.Plain.{bool_vals, bool_Tells, bool_Makes}
+use denote.Floats.{float_vals, float_Tells, float_Makes}
 use denote.Laws.{Is}
 use denote.Struct.Laws as LL
 use Rattle.timeline.specs.declared.segment.Segment.{Segment}
@@ -40,17 +40,17 @@ abbrev pub val : Segment → Val
 val = LL.val T.the_type T'.the_laws
 
 abbrev pub double : Plain
-double = record { type = f64; vals = float_vals binary64; tells = float_tells binary64; ends = λ _. tt; quiet = λ x f. refl; makes = λ M 𝓤 𝓛. float_makes 𝓛 binary64 }
+double = record { type = f64; vals = float_vals binary64; tells = float_Tells binary64; ends = λ _. tt; quiet = λ x f. refl; makes = λ M 𝓤 𝓛. float_Makes 𝓛 binary64 }
 
 abbrev pub truth : Plain
-truth = record { type = bool; vals = bool_vals; tells = bool_tells; ends = λ _. tt; quiet = λ x f. refl; makes = λ M 𝓤 𝓛. bool_makes 𝓛 }
+truth = record { type = bool; vals = bool_vals; tells = bool_Tells; ends = λ _. tt; quiet = λ x f. refl; makes = λ M 𝓤 𝓛. bool_Makes 𝓛 }
 
 abbrev pub segment : Plain
 segment = record { type = R; vals = vals; tells = LL.tells T.the_type T'.the_laws; ends = λ _. tt; quiet = λ x f. refl; makes = λ M 𝓤 𝓛. LL.makes T.the_type T'.the_plain 𝓛 }
 
 -- a Segment as the element of a slice
 abbrev pub element : Element
-element = record { plain = segment; val = val; one = λ x. refl; past = emptied }
+element = record { plain = segment; val = val; one = λ x. refl; past = emptied; copied = λ M 𝓤 𝓛. LL.copied T.the_type T'.the_copy 𝓛 }
 
 -- the machine value of a record has the record's MIR type
 pub typed : {M : Type 1} {𝓤 : Ura M} → (𝓛 : Logic 𝓤) → (x : Segment) → Is R x (vals x) → Holds (has_ty T'.mir (val x)) × WT (val x)

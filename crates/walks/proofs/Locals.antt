@@ -10,7 +10,7 @@ use mathlib.Core.Path.{◌≡◌, refl, sym, subst}
 use mathlib.Core.Bool.{Bool, not}
 use mathlib.Core.List.{List, [], ◌∷◌}
 use seplogic.Ra.Ura.{Ura}
-use seplogic.Ra.TreeShare.{full_share}
+use base.Fraction.{full_share}
 use lib.WfN.{lt-wf_rel}
 use lib.Dec.{T as Holds}
 use mir.Syntax.{Ty, Lifetime, Mutability, ty_ref, Local, local, Fn, Body, Rv as RValue, w64, ty_int, place, field, deref, addr_of, aggregate, copy, Opd as Operand, seq, assign, cond, skip, exit, block, loop, return}

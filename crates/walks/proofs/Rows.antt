@@ -11,14 +11,14 @@ use Prim.Native.Nat.{ℕ}
 use mathlib.Core.List.{List, [], ◌∷◌}
 use lib.ListN.{length}
 use seplogic.Ra.Ura.{Ura}
-use seplogic.Ra.TreeShare.{full_share}
+use base.Fraction.{full_share}
 use mir.Syntax.{Fn, named}
 use mir.Val.{Val}
 use base.Logic.{SProp, ent, sep, ex, guard, via, mono_l, id⊢}
 use base.Fml.{Fml, Lft, Share, GName, ftrue, flft, fobs, fauth, fobor, flent}
 use prog.Wp.{WpFn, Closed}
 use prog.Model.{Model}
-use prog.Routine.{Name, Routine, Env}
+use prog.Routine.{Callee, Routine, Env}
 use types.Logic.{Logic, sem}
 use contract.Monad.{Fun, fact, fm→mono}
 use contract.Lifetimes.{Lfts}
@@ -32,7 +32,7 @@ use denote.Shadow.{pure_i}
 use denote.Memory.{mem}
 use denote.Laws.{Is, Ises, shows, owns_make}
 use denote.Ref.{MutBor}
-use denote.Slice.{slice_val, MutSlice, Room, heres, coded_holeys, mut_slice_at, mut_slice_vals, mut_slice_tells}
+use denote.Slice.{slice_val, MutSlice, Room, heres, coded_holeys, mut_slice_at, mut_slice_vals, mut_slice_Tells}
 use denote.Lend.{Held, lends_slice, slice_back}
 use denote.Index.{row, whole_in, whole_out, opens_slice, closes_slice}
 use denote.Steps.{nothing, heard, peeks, owned}
@@ -42,7 +42,7 @@ use denote.Triple.Spec.{Meets, triple_of}
 use denote.Triple.Statement.{FmF}
 use denote.Triple.Clauses.{Ended, Clauses, closing, lasts, Lasts}
 use denote.Triple.Table.{Enters, framed, enters, cited}
-use denote.Triple.Walked.{says, needs, Stays, stay_slice, Goes-slice, has_of, walk_of, ends_at, walked, walk_meets}
+use denote.Triple.Walked.{says, needs, Stays, stay_slice, Goes-slice, has_of, walk_of, ends_at, walked, walk_Meets}
 use Rattle.walks.proofs.Plain.{Plain, none, slots, kept, stays, kinds, Rest, spells, spelt, flatly, Good, tell, last, fit, had, go, make}
 
 pub record Task (R : RattleType) : Type 2 where
@@ -139,8 +139,8 @@ module _ {R : RattleType} (t : Task R) where
               (fm (s ∷ flatly 1 κs ps a) (Left κs b o ys a) Post (⋆ 𝓛 Kept) (closes room)))
 
         pub lifts : Does run → Meets 𝓛 ended.signature run (closing 𝓛 ended clauses)
-        lifts does = walk_meets 𝓛 ended stayed (Goes-slice 𝓛 1 0 tt (plain (λ _. R)), go 𝓛 1 ps) clauses run (λ vs. fm→mono 𝓤 (run vs) (fm vs))
-            (walked 𝓛 ended stayed clauses run (λ κs. (mut_slice_vals, spells 1 κs ps)) (λ κs. (mut_slice_tells (named 0) κs.0 R, tell 1 κs ps))
+        lifts does = walk_Meets 𝓛 ended stayed (Goes-slice 𝓛 1 0 tt (plain (λ _. R)), go 𝓛 1 ps) clauses run (λ vs. fm→mono 𝓤 (run vs) (fm vs))
+            (walked 𝓛 ended stayed clauses run (λ κs. (mut_slice_vals, spells 1 κs ps)) (λ κs. (mut_slice_Tells (named 0) κs.0 R, tell 1 κs ps))
             (λ κs qs bounds a g are. needs 𝓤 (t.asks κs a.0.now a.1) _ (λ asked. opens κs qs.0 a.0.ref_ptr.0 a.0.ref_ptr.1 a.0.ghost_name a.0.now a.1 are.0.0.1 are.1 asked does)))
 
         -- ---- the row is lent for a lifetime ν of the call, under the name γ
@@ -172,7 +172,7 @@ module _ {R : RattleType} (t : Task R) where
                 use1 𝓛 (later (some (λ (r : t.result.type.Denot). ((‵ (flft (ν ∷ []) full_share) ⊛ ‵ ftrue) ⊛ ‵ (t.result.type.own_val r (v ∷ []))) ⊛ some (λ (ws : Lasts ended κs (x', a κs)). ‵ (lasts ended κs (x', a κs) ws) ⊛ raw (fact 𝓤 (t.promises κs ys (a κs) r ws.0)))))) (id⊢ 𝓤 _) $ await ! tt $ pick ! (λ r.
                 split ! $ move ! (1 ∷ []) $ pick ! (λ ws. split ! $ move ! (1 ∷ []) $ heard ! (t.promises κs ys (a κs) r ws.0) (λ e.
                 -- [what is said of the last values; the tokens and the result; the lender's part]
-                fsplit ! $ fsplit ! $ move ! (1 ∷ []) $ feq_l ! (λ l. move ! (2 ∷ []) $ split ! $ move ! (1 ∷ []) $ peeks ! t.result.type (Is t.result.type) (shows 𝓛 t.result.type) r (v ∷ []) (λ is.
+                fsplit ! $ fsplit ! $ fsplit ! $ move ! (2 ∷ []) $ drop ! $ move ! (1 ∷ []) $ feq_l ! (λ l. move ! (2 ∷ []) $ split ! $ move ! (1 ∷ []) $ peeks ! t.result.type (Is t.result.type) (shows 𝓛 t.result.type) r (v ∷ []) (λ is.
                 move ! (1 ∷ []) $ split ! $ lft_end ! tt $ move ! (0 ∷ 5 ∷ 3 ∷ []) $
                 use3 𝓛 (later (‵ ((Arr (mem R) (length ys)).own_at ws.0 b o))) (slice_back 𝓛 R (ν ∷ []) γ ws.0 (length ys) b o) $ await ! tt $ fsplit ! $ drop ! $ use1 𝓛 (‵ (row R full_share ws.0 b o)) (whole_out 𝓛 R ws.0 b o) $ at_once ! $
                 show ! (λ (r : t.result.type.Denot). ex 𝓤 (λ (zs : List R.Denot). guard 𝓤 (Is t.result.type r (v ∷ []) × (length zs ≡ length ys) × Q r zs) (sem 𝓛 (row R full_share zs b o)))) r $
@@ -188,7 +188,7 @@ module _ {R : RattleType} (t : Task R) where
               (via 𝓤 _ (mono_l 𝓤 (A.lent (ν ∷ []) (Held R (length ys) b o γ)) (met (y ν γ))) (fm _ _ Got (A.lent (ν ∷ []) (Held R (length ys) b o γ)) (back ν γ))))))
 
   -- a walk of the MIR that does the task proves the function
-  module _ {M : Type 1} {𝓤 : Ura M} (𝓛 : Logic 𝓤) (𝓜 : Model 𝓤 𝓛.H) (𝓡 : Running 𝓤 𝓛.H 𝓜) (γ : Env) (k : Name) (e : Fn) where
+  module _ {M : Type 1} {𝓤 : Ura M} (𝓛 : Logic 𝓤) (𝓜 : Model 𝓤 𝓛.H) (𝓡 : Running 𝓤 𝓛.H 𝓜) (γ : Env) (k : Callee) (e : Fn) where
     open 𝓛 use {H}
 
     pub proves : Closed 𝓤 H (tables 𝓤 H 𝓜 𝓡 γ).C (tables 𝓤 H 𝓜 𝓡 γ).Λ k e → Does 𝓛 (WpFn 𝓤 H (tables_of 𝓤 H 𝓜 (tables 𝓤 H 𝓜 𝓡 γ)).C (tables_of 𝓤 H 𝓜 (tables 𝓤 H 𝓜 𝓡 γ)).Λ e)
@@ -198,7 +198,7 @@ module _ {R : RattleType} (t : Task R) where
         (λ κs b o ys a room good asked. via 𝓤 _ (walk κs b o ys a room good asked) (closed _ _))
 
   -- the function's theorem gives it
-  pub knows : {M : Type 1} {𝓤 : Ura M} (𝓛 : Logic 𝓤) (𝓜 : Model 𝓤 𝓛.H) (𝓡 : Running 𝓤 𝓛.H 𝓜) (γ : Env) (f : Name) (r : Routine) → γ f ≡ r → Meets 𝓛 ended.signature (𝓡.run r) (closing 𝓛 ended (clauses 𝓛))
+  pub knows : {M : Type 1} {𝓤 : Ura M} (𝓛 : Logic 𝓤) (𝓜 : Model 𝓤 𝓛.H) (𝓡 : Running 𝓤 𝓛.H 𝓜) (γ : Env) (f : Callee) (r : Routine) → γ f ≡ r → Meets 𝓛 ended.signature (𝓡.run r) (closing 𝓛 ended (clauses 𝓛))
       → Knows 𝓛 ((tables_of 𝓤 𝓛.H 𝓜 (tables 𝓤 𝓛.H 𝓜 𝓡 γ)).C f)
   unfolding tables_of
   knows {𝓤 = 𝓤} 𝓛 𝓜 𝓡 γ f r is met = (enters 𝓤 𝓛.H 𝓜 (tables 𝓤 𝓛.H 𝓜 𝓡 γ) f, cited 𝓤 𝓛.H (triple_of 𝓛 ended.signature (closing 𝓛 ended (clauses 𝓛))) 𝓜 𝓡 γ f r is met)

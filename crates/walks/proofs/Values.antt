@@ -13,7 +13,7 @@ use base.Fml.{Fml, ftrue}
 use mir.Syntax.{Fn}
 use prog.Wp.{WpFn, Closed}
 use prog.Model.{Model}
-use prog.Routine.{Name, Routine, Env}
+use prog.Routine.{Callee, Routine, Env}
 use types.Logic.{Logic, sem}
 use contract.Monad.{Fun, fact, fact_i, fm→mono}
 use contract.Running.{Running, tables, tables_of}
@@ -25,7 +25,7 @@ use denote.Steps.{nothing, heard, peeks, owned}
 use denote.Triple.Spec.{Meets, triple_of}
 use denote.Triple.Statement.{FmF}
 use denote.Triple.Table.{framed, cited}
-use denote.Triple.Walked.{says, needs, Stays, has_of, walk_of, ends_at, walked, walk_meets}
+use denote.Triple.Walked.{says, needs, Stays, has_of, walk_of, ends_at, walked, walk_Meets}
 use denote.Triple.Clauses.{Ended, Clauses, closing, lasts, Lasts}
 use Rattle.walks.proofs.Plain as Plains
 use Rattle.walks.proofs.Plain.{Plain}
@@ -136,12 +136,12 @@ module _ (t : Value) where
               nothing ! $ frame ! $ use1 𝓛 (‵ Has) still $ frame ! $ owned ! t.result.type (Is t.result.type) (t.result.makes M 𝓤 𝓛) (t.is a) _ is $ done !)
 
         pub lifts : Does run → Meets 𝓛 ended.signature run (closing 𝓛 ended clauses)
-        lifts does = walk_meets 𝓛 ended stayed (Plains.go 𝓛 0 t.params) clauses run (λ vs. fm→mono 𝓤 (run vs) (fm vs))
+        lifts does = walk_Meets 𝓛 ended stayed (Plains.go 𝓛 0 t.params) clauses run (λ vs. fm→mono 𝓤 (run vs) (fm vs))
             (walked 𝓛 ended stayed clauses run (λ κs. Plains.spells 0 tt t.params) (λ κs. Plains.tell 0 tt t.params) (λ κs qs bounds a g are. condition-told 𝓤 t.asks a _ (λ asked.
             via 𝓤 _ (mono_l 𝓤 (sem 𝓛 (owns (kinds t.params) a (spelt a))) (does a are asked)) (fm (flat (kinds t.params) (spelt a)) (Returned a) (Post a) (sem 𝓛 (owns (kinds t.params) a (spelt a))) (closes a)))))
 
   -- a walk of the MIR that does it proves the function
-  module _ {M : Type 1} {𝓤 : Ura M} (𝓛 : Logic 𝓤) (𝓜 : Model 𝓤 𝓛.H) (𝓡 : Running 𝓤 𝓛.H 𝓜) (γ : Env) (k : Name) (e : Fn) where
+  module _ {M : Type 1} {𝓤 : Ura M} (𝓛 : Logic 𝓤) (𝓜 : Model 𝓤 𝓛.H) (𝓡 : Running 𝓤 𝓛.H 𝓜) (γ : Env) (k : Callee) (e : Fn) where
     open 𝓛 use {H}
 
     pub proves : Closed 𝓤 H (tables 𝓤 H 𝓜 𝓡 γ).C (tables 𝓤 H 𝓜 𝓡 γ).Λ k e → Does 𝓛 (WpFn 𝓤 H (tables_of 𝓤 H 𝓜 (tables 𝓤 H 𝓜 𝓡 γ)).C (tables_of 𝓤 H 𝓜 (tables 𝓤 H 𝓜 𝓡 γ)).Λ e)
@@ -150,7 +150,7 @@ module _ (t : Value) where
     proves closed walk = lifts 𝓛 ((tables 𝓤 H 𝓜 𝓡 γ).C k) (framed 𝓤 H 𝓜 (tables 𝓤 H 𝓜 𝓡 γ) k) (λ a good asked. via 𝓤 _ (walk a good asked) (closed _ _))
 
   -- the function's theorem gives it
-  pub knows : {M : Type 1} {𝓤 : Ura M} (𝓛 : Logic 𝓤) (𝓜 : Model 𝓤 𝓛.H) (𝓡 : Running 𝓤 𝓛.H 𝓜) (γ : Env) (f : Name) (r : Routine) → γ f ≡ r → Meets 𝓛 ended.signature (𝓡.run r) (closing 𝓛 ended (clauses 𝓛))
+  pub knows : {M : Type 1} {𝓤 : Ura M} (𝓛 : Logic 𝓤) (𝓜 : Model 𝓤 𝓛.H) (𝓡 : Running 𝓤 𝓛.H 𝓜) (γ : Env) (f : Callee) (r : Routine) → γ f ≡ r → Meets 𝓛 ended.signature (𝓡.run r) (closing 𝓛 ended (clauses 𝓛))
       → Knows 𝓛 ((tables_of 𝓤 𝓛.H 𝓜 (tables 𝓤 𝓛.H 𝓜 𝓡 γ)).C f)
   unfolding tables_of
   knows {𝓤 = 𝓤} 𝓛 𝓜 𝓡 γ f r is met = cited 𝓤 𝓛.H (triple_of 𝓛 ended.signature (closing 𝓛 ended (clauses 𝓛))) 𝓜 𝓡 γ f r is met

@@ -5,14 +5,14 @@ pub use native.Mathlib.Omega.{arith}
 pub use mathlib.Core.List.{[], ◌∷◌, List}
 pub use lib.ListN.{length, set, length-set}
 pub use seplogic.Ra.Ura.{Ura}
-pub use seplogic.Ra.TreeShare.{full_share}
+pub use base.Fraction.{full_share}
 pub use mir.Syntax.{w64, ty_ptr}
 pub use mir.Val.{vbool, vint, vfloat, vptr, vunit}
 pub use base.Fml.{fat}
 pub use prog.Wp.{Heap, WpFn, Tables, Env}
 pub use ghost.Atoms.{Atoms}
-pub use contract.Running.{given_of, tables, tables_of}
-pub use types.Kit.{Given, ‵, ◌$◌, ◌∵◌, !, qed, rewrite, by, move, drop, Item, raw, given, use1, learn}
+pub use contract.Running.{tables, tables_of}
+pub use types.Kit.{‵, ◌$◌, ◌∵◌, !, qed, rewrite, by, move, drop, Item, raw, given, use1, learn}
 pub use types.Run.{addr, look, look_raw, init, stop, hop, fld, from, load, lit, of_opd, bin, assigns, params1, pass1, pass0, store_raw, unit_lit, forget, and_then, no_more}
 pub use types.Part.{whole, sub, agg, look_in}
 pub use denote.Laws.{Is, shows}

@@ -10,12 +10,11 @@ use borrow.Author.Rules.{rules}
 use borrow.Author.Tests.{lt-ltb, le-ltb, ltb-false, eqb-true, not-false}
 use Rattle.laws.proofs.Table.{Reads, here, next, end, reads, told, told-not}
 use Rattle.bits.specs.Bits.{bits_of_bytes}
-use Rattle.card.specs.Layout.{Meaning, layouts, numbered_in, is_found, layout_or1}
+use Rattle.card.specs.Layout.{layouts, numbered_in, is_found, layout_or1}
 use Rattle.card.specs.Rules.{card_broken, needless}
 use Rattle.card.specs.declared.layout.Layout.{Layout}
-use Rattle.card.specs.declared.layout.Header.{Header}
 use Rattle.card.proofs.Known.{Sound, found-sound}
-use Rattle.card_form.specs.Form.{card_size, number_on, count_on, with_first, meaning_on, filler_set}
+use Rattle.card_form.specs.Form.{card_size, number_on, count_on, meaning_on, filler_set}
 use Rattle.card_reader.specs.Reading.{layout_on, reading_table, judged_of}
 use Rattle.card_reader.specs.declared.judge.CardJudged.{CardJudged}
 use Rattle.card_reader.specs.declared.judge.CardJudged.TheVariants.{Readable}
@@ -39,7 +38,7 @@ pub returns-then-not-known : goal.returns-then-not-known
 returns-then-not-known c =
     let found-is : c.layout_numbered-found.result ≡ layout_on ((bits_of_bytes (c.args.bytes.now))) = c.layout_numbered-found.ensures ∙ ap (numbered_in layouts) c.number_on.ensures in
     let known_is : c.is_found-known.result ≡ is_found (layout_on ((bits_of_bytes (c.args.bytes.now)))) = c.is_found-known.ensures ∙ ap is_found (found-is) in
-    let unknown = told-not (known_is) c.if-not-known.true in
+    let unknown = told-not (known_is) (ap not c.if-not-known.true) in
     judged (c.args.bytes.now) c.args.rows (next c.if-short.false (next (unknown-length (is_found (layout_on ((bits_of_bytes (c.args.bytes.now))))) (eqb (length (c.args.bytes.now)) (card_size ((layout_or1 (layout_on ((bits_of_bytes (c.args.bytes.now)))))) (count_on ((layout_or1 (layout_on ((bits_of_bytes (c.args.bytes.now)))))) ((bits_of_bytes (c.args.bytes.now)))))) unknown) (here unknown)))
 
 pub count_on-count-requires : goal.count_on-count-requires
@@ -65,39 +64,30 @@ returns-then-not-bytes-card_size c =
     let layout_is : c.layout_or_1-l.result ≡ ((layout_or1 (layout_on ((bits_of_bytes (c.args.bytes.now)))))) = c.layout_or_1-l.ensures ∙ ap layout_or1 (found-is) in
     let known_is : c.is_found-known.result ≡ is_found (layout_on ((bits_of_bytes (c.args.bytes.now)))) = c.is_found-known.ensures ∙ ap is_found (found-is) in
     let long : ltb (length (c.args.bytes.now)) 7 ≡ false = c.if-short.false in
-    let known : not (is_found (layout_on ((bits_of_bytes (c.args.bytes.now))))) ≡ false = told-not (known_is) c.if-not-known.false in
+    let known : not (is_found (layout_on ((bits_of_bytes (c.args.bytes.now))))) ≡ false = told-not (known_is) (ap not c.if-not-known.false) in
     let count-is : c.count_on-count.result ≡ count_on ((layout_or1 (layout_on ((bits_of_bytes (c.args.bytes.now)))))) ((bits_of_bytes (c.args.bytes.now))) = c.count_on-count.ensures.0 ∙ ap (λ (k : Layout). count_on k ((bits_of_bytes (c.args.bytes.now)))) (layout_is) in
     let size_is : c.card_size.result ≡ card_size ((layout_or1 (layout_on ((bits_of_bytes (c.args.bytes.now)))))) (count_on ((layout_or1 (layout_on ((bits_of_bytes (c.args.bytes.now)))))) ((bits_of_bytes (c.args.bytes.now)))) = c.card_size.ensures ∙ ap₂ card_size (layout_is) (count-is) in
-    let of_length : {b : Bool} → not (eqb (length (c.args.bytes.now)) c.card_size.result) ≡ b →
-    is_found (layout_on ((bits_of_bytes (c.args.bytes.now)))) && not (eqb (length (c.args.bytes.now)) (card_size ((layout_or1 (layout_on ((bits_of_bytes (c.args.bytes.now)))))) (count_on ((layout_or1 (layout_on ((bits_of_bytes (c.args.bytes.now)))))) ((bits_of_bytes (c.args.bytes.now)))))) ≡ b = λ t. ap (λ (k : Bool). k && not (eqb (length (c.args.bytes.now)) (card_size ((layout_or1 (layout_on ((bits_of_bytes (c.args.bytes.now)))))) (count_on ((layout_or1 (layout_on ((bits_of_bytes (c.args.bytes.now)))))) ((bits_of_bytes (c.args.bytes.now))))))) (not-false (is_found (layout_on ((bits_of_bytes (c.args.bytes.now))))) (known))
+    let of_length : (b : Bool) → not (eqb (length (c.args.bytes.now)) c.card_size.result) ≡ b →
+    is_found (layout_on ((bits_of_bytes (c.args.bytes.now)))) && not (eqb (length (c.args.bytes.now)) (card_size ((layout_or1 (layout_on ((bits_of_bytes (c.args.bytes.now)))))) (count_on ((layout_or1 (layout_on ((bits_of_bytes (c.args.bytes.now)))))) ((bits_of_bytes (c.args.bytes.now)))))) ≡ b = λ w0 t. ap (λ (k : Bool). k && not (eqb (length (c.args.bytes.now)) (card_size ((layout_or1 (layout_on ((bits_of_bytes (c.args.bytes.now)))))) (count_on ((layout_or1 (layout_on ((bits_of_bytes (c.args.bytes.now)))))) ((bits_of_bytes (c.args.bytes.now))))))) (not-false (is_found (layout_on ((bits_of_bytes (c.args.bytes.now))))) (known))
     ∙ ap (λ (n : ℕ). not (eqb (length (c.args.bytes.now)) n)) (sym (size_is))
     ∙ t in
-    judged (c.args.bytes.now) c.args.rows (next (long) (here (of_length.if3.true)))
-
-pub header_on-h-requires : goal.header_on-h-requires
-header_on-h-requires c =
-    let found-is : c.layout_numbered-found.result ≡ layout_on ((bits_of_bytes (c.args.bytes.now))) = c.layout_numbered-found.ensures ∙ ap (numbered_in layouts) c.number_on.ensures in
-    let layout_is : c.layout_or_1-l.result ≡ ((layout_or1 (layout_on ((bits_of_bytes (c.args.bytes.now)))))) = c.layout_or_1-l.ensures ∙ ap layout_or1 (found-is) in
-    let sound : Sound c.layout_or_1-l.result = subst Sound (sym (layout_is)) (found-sound (number_on ((bits_of_bytes (c.args.bytes.now))))) in
-    let long : ltb (length (c.args.bytes.now)) 7 ≡ false = c.if-short.false in
-    let fits = (sound).fits in
-    (fits, omega (arith, fits.count, ltb-false (length (c.args.bytes.now)) 7 (long)))
+    judged (c.args.bytes.now) c.args.rows (next (long) (here (of_length _.if3.true)))
 
 pub is_broken-requires : goal.is_broken-requires
 is_broken-requires c =
     let found-is : c.layout_numbered-found.result ≡ layout_on ((bits_of_bytes (c.args.bytes.now))) = c.layout_numbered-found.ensures ∙ ap (numbered_in layouts) c.number_on.ensures in
     let layout_is : c.layout_or_1-l.result ≡ ((layout_or1 (layout_on ((bits_of_bytes (c.args.bytes.now)))))) = c.layout_or_1-l.ensures ∙ ap layout_or1 (found-is) in
     let sound : Sound c.layout_or_1-l.result = subst Sound (sym (layout_is)) (found-sound (number_on ((bits_of_bytes (c.args.bytes.now))))) in
-    let whole : length (c.args.bytes.now) ≡ card_size c.layout_or_1-l.result c.count_on-count.result = eqb-true _ _ (not-false _ c.if-not-bytes-card_size.false) ∙ c.card_size.ensures in
+    let whole : length (c.args.bytes.now) ≡ card_size c.layout_or_1-l.result c.count_on-count.result = eqb-true _ _ c.if-not-bytes-card_size.false ∙ c.card_size.ensures in
     let count = c.count_on-count.ensures in
-    ((sound).fits, count.1, omega (arith, whole))
+    ((sound).fits, count.1, count.0, omega (arith, whole))
 
 pub filler_set-requires : goal.filler_set-requires
 filler_set-requires c =
     let found-is : c.layout_numbered-found.result ≡ layout_on ((bits_of_bytes (c.args.bytes.now))) = c.layout_numbered-found.ensures ∙ ap (numbered_in layouts) c.number_on.ensures in
     let layout_is : c.layout_or_1-l.result ≡ ((layout_or1 (layout_on ((bits_of_bytes (c.args.bytes.now)))))) = c.layout_or_1-l.ensures ∙ ap layout_or1 (found-is) in
     let sound : Sound c.layout_or_1-l.result = subst Sound (sym (layout_is)) (found-sound (number_on ((bits_of_bytes (c.args.bytes.now))))) in
-    let whole : length (c.args.bytes.now) ≡ card_size c.layout_or_1-l.result c.count_on-count.result = eqb-true _ _ (not-false _ c.if-not-bytes-card_size.false) ∙ c.card_size.ensures in
+    let whole : length (c.args.bytes.now) ≡ card_size c.layout_or_1-l.result c.count_on-count.result = eqb-true _ _ c.if-not-bytes-card_size.false ∙ c.card_size.ensures in
     let count = c.count_on-count.ensures in
     ((sound).fits, count.1, count.0, whole)
 
@@ -107,31 +97,27 @@ returns-then-is_broken-filler_set c =
     let layout_is : c.layout_or_1-l.result ≡ ((layout_or1 (layout_on ((bits_of_bytes (c.args.bytes.now)))))) = c.layout_or_1-l.ensures ∙ ap layout_or1 (found-is) in
     let known_is : c.is_found-known.result ≡ is_found (layout_on ((bits_of_bytes (c.args.bytes.now)))) = c.is_found-known.ensures ∙ ap is_found (found-is) in
     let long : ltb (length (c.args.bytes.now)) 7 ≡ false = c.if-short.false in
-    let known : not (is_found (layout_on ((bits_of_bytes (c.args.bytes.now))))) ≡ false = told-not (known_is) c.if-not-known.false in
+    let known : not (is_found (layout_on ((bits_of_bytes (c.args.bytes.now))))) ≡ false = told-not (known_is) (ap not c.if-not-known.false) in
     let count-is : c.count_on-count.result ≡ count_on ((layout_or1 (layout_on ((bits_of_bytes (c.args.bytes.now)))))) ((bits_of_bytes (c.args.bytes.now))) = c.count_on-count.ensures.0 ∙ ap (λ (k : Layout). count_on k ((bits_of_bytes (c.args.bytes.now)))) (layout_is) in
     let size_is : c.card_size.result ≡ card_size ((layout_or1 (layout_on ((bits_of_bytes (c.args.bytes.now)))))) (count_on ((layout_or1 (layout_on ((bits_of_bytes (c.args.bytes.now)))))) ((bits_of_bytes (c.args.bytes.now)))) = c.card_size.ensures ∙ ap₂ card_size (layout_is) (count-is) in
-    let of_length : {b : Bool} → not (eqb (length (c.args.bytes.now)) c.card_size.result) ≡ b →
-    is_found (layout_on ((bits_of_bytes (c.args.bytes.now)))) && not (eqb (length (c.args.bytes.now)) (card_size ((layout_or1 (layout_on ((bits_of_bytes (c.args.bytes.now)))))) (count_on ((layout_or1 (layout_on ((bits_of_bytes (c.args.bytes.now)))))) ((bits_of_bytes (c.args.bytes.now)))))) ≡ b = λ t. ap (λ (k : Bool). k && not (eqb (length (c.args.bytes.now)) (card_size ((layout_or1 (layout_on ((bits_of_bytes (c.args.bytes.now)))))) (count_on ((layout_or1 (layout_on ((bits_of_bytes (c.args.bytes.now)))))) ((bits_of_bytes (c.args.bytes.now))))))) (not-false (is_found (layout_on ((bits_of_bytes (c.args.bytes.now))))) (known))
+    let of_length : (b : Bool) → not (eqb (length (c.args.bytes.now)) c.card_size.result) ≡ b →
+    is_found (layout_on ((bits_of_bytes (c.args.bytes.now)))) && not (eqb (length (c.args.bytes.now)) (card_size ((layout_or1 (layout_on ((bits_of_bytes (c.args.bytes.now)))))) (count_on ((layout_or1 (layout_on ((bits_of_bytes (c.args.bytes.now)))))) ((bits_of_bytes (c.args.bytes.now)))))) ≡ b = λ w0 t. ap (λ (k : Bool). k && not (eqb (length (c.args.bytes.now)) (card_size ((layout_or1 (layout_on ((bits_of_bytes (c.args.bytes.now)))))) (count_on ((layout_or1 (layout_on ((bits_of_bytes (c.args.bytes.now)))))) ((bits_of_bytes (c.args.bytes.now))))))) (not-false (is_found (layout_on ((bits_of_bytes (c.args.bytes.now))))) (known))
     ∙ ap (λ (n : ℕ). not (eqb (length (c.args.bytes.now)) n)) (sym (size_is))
     ∙ t in
-    let all_said : (holds : Layout → Meaning → Bool) →
-    holds c.layout_or_1-l.result (with_first c.layout_or_1-l.result ((bits_of_bytes (c.args.bytes.now))) c.header_on-h.result c.count-on.result) ≡ holds ((layout_or1 (layout_on ((bits_of_bytes (c.args.bytes.now)))))) (meaning_on ((layout_or1 (layout_on ((bits_of_bytes (c.args.bytes.now)))))) ((bits_of_bytes (c.args.bytes.now)))) = λ holds. let k = c.layout_or_1-l.result in
-    ap₂ (λ (h : Header) (n : ℕ). holds k (with_first k ((bits_of_bytes (c.args.bytes.now))) h n)) c.header_on-h.ensures c.count-on.ensures.0
-    ∙ ap (λ (x : Layout). holds x (meaning_on x ((bits_of_bytes (c.args.bytes.now))))) (layout_is) in
-    let of-rules : {b : Bool} → c.is_broken.result || c.filler_set.result ≡ b → card_broken ((layout_or1 (layout_on ((bits_of_bytes (c.args.bytes.now)))))) (meaning_on ((layout_or1 (layout_on ((bits_of_bytes (c.args.bytes.now)))))) ((bits_of_bytes (c.args.bytes.now)))) || filler_set ((layout_or1 (layout_on ((bits_of_bytes (c.args.bytes.now)))))) ((bits_of_bytes (c.args.bytes.now))) ≡ b = λ t. sym (ap₂ (λ (x y : Bool). x || y) (c.is_broken.ensures ∙ all_said card_broken)
+    let of-rules : (b : Bool) → c.is_broken.result || c.filler_set.result ≡ b → card_broken ((layout_or1 (layout_on ((bits_of_bytes (c.args.bytes.now)))))) (meaning_on ((layout_or1 (layout_on ((bits_of_bytes (c.args.bytes.now)))))) ((bits_of_bytes (c.args.bytes.now)))) || filler_set ((layout_or1 (layout_on ((bits_of_bytes (c.args.bytes.now)))))) ((bits_of_bytes (c.args.bytes.now))) ≡ b = λ w0 t. sym (ap₂ (λ (x y : Bool). x || y) (c.is_broken.ensures ∙ ap (λ (k : Layout). card_broken k (meaning_on k ((bits_of_bytes (c.args.bytes.now))))) (layout_is))
     (c.filler_set.ensures ∙ ap (λ (k : Layout). filler_set k ((bits_of_bytes (c.args.bytes.now)))) (layout_is)))
     ∙ t in
-    let past : {answer : CardJudged} → Reads (Readable ((layout_or1 (layout_on ((bits_of_bytes (c.args.bytes.now))))))) (drop 3 (reading_table (c.args.bytes.now) ((bits_of_bytes (c.args.bytes.now))) ((layout_or1 (layout_on ((bits_of_bytes (c.args.bytes.now)))))) (c.args.rows))) answer → answer ≡ judged_of (c.args.bytes.now) (c.args.rows) = λ r. judged (c.args.bytes.now) (c.args.rows) (next (long) (next (of_length c.if-not-bytes-card_size.left) (next (known) r))) in
-    past (here (of-rules c.if-is_broken-filler_set.true))
+    let past : (answer : CardJudged) → Reads (Readable ((layout_or1 (layout_on ((bits_of_bytes (c.args.bytes.now))))))) (drop 3 (reading_table (c.args.bytes.now) ((bits_of_bytes (c.args.bytes.now))) ((layout_or1 (layout_on ((bits_of_bytes (c.args.bytes.now)))))) (c.args.rows))) answer → answer ≡ judged_of (c.args.bytes.now) (c.args.rows) = λ w0 r. judged (c.args.bytes.now) (c.args.rows) (next (long) (next (of_length _ (ap not c.if-not-bytes-card_size.false)) (next (known) r))) in
+    past _ (here (of-rules _ c.if-is_broken-filler_set.true))
 
 pub is_needless-requires : goal.is_needless-requires
 is_needless-requires c =
     let found-is : c.layout_numbered-found.result ≡ layout_on ((bits_of_bytes (c.args.bytes.now))) = c.layout_numbered-found.ensures ∙ ap (numbered_in layouts) c.number_on.ensures in
     let layout_is : c.layout_or_1-l.result ≡ ((layout_or1 (layout_on ((bits_of_bytes (c.args.bytes.now)))))) = c.layout_or_1-l.ensures ∙ ap layout_or1 (found-is) in
     let sound : Sound c.layout_or_1-l.result = subst Sound (sym (layout_is)) (found-sound (number_on ((bits_of_bytes (c.args.bytes.now))))) in
-    let whole : length (c.args.bytes.now) ≡ card_size c.layout_or_1-l.result c.count_on-count.result = eqb-true _ _ (not-false _ c.if-not-bytes-card_size.false) ∙ c.card_size.ensures in
+    let whole : length (c.args.bytes.now) ≡ card_size c.layout_or_1-l.result c.count_on-count.result = eqb-true _ _ c.if-not-bytes-card_size.false ∙ c.card_size.ensures in
     let count = c.count_on-count.ensures in
-    ((sound).fits, count.1, omega (arith, whole))
+    ((sound).fits, count.1, count.0, omega (arith, whole))
 
 pub returns-then-is_needless : goal.returns-then-is_needless
 returns-then-is_needless c =
@@ -139,24 +125,20 @@ returns-then-is_needless c =
     let layout_is : c.layout_or_1-l.result ≡ ((layout_or1 (layout_on ((bits_of_bytes (c.args.bytes.now)))))) = c.layout_or_1-l.ensures ∙ ap layout_or1 (found-is) in
     let known_is : c.is_found-known.result ≡ is_found (layout_on ((bits_of_bytes (c.args.bytes.now)))) = c.is_found-known.ensures ∙ ap is_found (found-is) in
     let long : ltb (length (c.args.bytes.now)) 7 ≡ false = c.if-short.false in
-    let known : not (is_found (layout_on ((bits_of_bytes (c.args.bytes.now))))) ≡ false = told-not (known_is) c.if-not-known.false in
+    let known : not (is_found (layout_on ((bits_of_bytes (c.args.bytes.now))))) ≡ false = told-not (known_is) (ap not c.if-not-known.false) in
     let count-is : c.count_on-count.result ≡ count_on ((layout_or1 (layout_on ((bits_of_bytes (c.args.bytes.now)))))) ((bits_of_bytes (c.args.bytes.now))) = c.count_on-count.ensures.0 ∙ ap (λ (k : Layout). count_on k ((bits_of_bytes (c.args.bytes.now)))) (layout_is) in
     let size_is : c.card_size.result ≡ card_size ((layout_or1 (layout_on ((bits_of_bytes (c.args.bytes.now)))))) (count_on ((layout_or1 (layout_on ((bits_of_bytes (c.args.bytes.now)))))) ((bits_of_bytes (c.args.bytes.now)))) = c.card_size.ensures ∙ ap₂ card_size (layout_is) (count-is) in
-    let of_length : {b : Bool} → not (eqb (length (c.args.bytes.now)) c.card_size.result) ≡ b →
-    is_found (layout_on ((bits_of_bytes (c.args.bytes.now)))) && not (eqb (length (c.args.bytes.now)) (card_size ((layout_or1 (layout_on ((bits_of_bytes (c.args.bytes.now)))))) (count_on ((layout_or1 (layout_on ((bits_of_bytes (c.args.bytes.now)))))) ((bits_of_bytes (c.args.bytes.now)))))) ≡ b = λ t. ap (λ (k : Bool). k && not (eqb (length (c.args.bytes.now)) (card_size ((layout_or1 (layout_on ((bits_of_bytes (c.args.bytes.now)))))) (count_on ((layout_or1 (layout_on ((bits_of_bytes (c.args.bytes.now)))))) ((bits_of_bytes (c.args.bytes.now))))))) (not-false (is_found (layout_on ((bits_of_bytes (c.args.bytes.now))))) (known))
+    let of_length : (b : Bool) → not (eqb (length (c.args.bytes.now)) c.card_size.result) ≡ b →
+    is_found (layout_on ((bits_of_bytes (c.args.bytes.now)))) && not (eqb (length (c.args.bytes.now)) (card_size ((layout_or1 (layout_on ((bits_of_bytes (c.args.bytes.now)))))) (count_on ((layout_or1 (layout_on ((bits_of_bytes (c.args.bytes.now)))))) ((bits_of_bytes (c.args.bytes.now)))))) ≡ b = λ w0 t. ap (λ (k : Bool). k && not (eqb (length (c.args.bytes.now)) (card_size ((layout_or1 (layout_on ((bits_of_bytes (c.args.bytes.now)))))) (count_on ((layout_or1 (layout_on ((bits_of_bytes (c.args.bytes.now)))))) ((bits_of_bytes (c.args.bytes.now))))))) (not-false (is_found (layout_on ((bits_of_bytes (c.args.bytes.now))))) (known))
     ∙ ap (λ (n : ℕ). not (eqb (length (c.args.bytes.now)) n)) (sym (size_is))
     ∙ t in
-    let all_said : (holds : Layout → Meaning → Bool) →
-    holds c.layout_or_1-l.result (with_first c.layout_or_1-l.result ((bits_of_bytes (c.args.bytes.now))) c.header_on-h.result c.count-on.result) ≡ holds ((layout_or1 (layout_on ((bits_of_bytes (c.args.bytes.now)))))) (meaning_on ((layout_or1 (layout_on ((bits_of_bytes (c.args.bytes.now)))))) ((bits_of_bytes (c.args.bytes.now)))) = λ holds. let k = c.layout_or_1-l.result in
-    ap₂ (λ (h : Header) (n : ℕ). holds k (with_first k ((bits_of_bytes (c.args.bytes.now))) h n)) c.header_on-h.ensures c.count-on.ensures.0
-    ∙ ap (λ (x : Layout). holds x (meaning_on x ((bits_of_bytes (c.args.bytes.now))))) (layout_is) in
-    let of-rules : {b : Bool} → c.is_broken.result || c.filler_set.result ≡ b → card_broken ((layout_or1 (layout_on ((bits_of_bytes (c.args.bytes.now)))))) (meaning_on ((layout_or1 (layout_on ((bits_of_bytes (c.args.bytes.now)))))) ((bits_of_bytes (c.args.bytes.now)))) || filler_set ((layout_or1 (layout_on ((bits_of_bytes (c.args.bytes.now)))))) ((bits_of_bytes (c.args.bytes.now))) ≡ b = λ t. sym (ap₂ (λ (x y : Bool). x || y) (c.is_broken.ensures ∙ all_said card_broken)
+    let of-rules : (b : Bool) → c.is_broken.result || c.filler_set.result ≡ b → card_broken ((layout_or1 (layout_on ((bits_of_bytes (c.args.bytes.now)))))) (meaning_on ((layout_or1 (layout_on ((bits_of_bytes (c.args.bytes.now)))))) ((bits_of_bytes (c.args.bytes.now)))) || filler_set ((layout_or1 (layout_on ((bits_of_bytes (c.args.bytes.now)))))) ((bits_of_bytes (c.args.bytes.now))) ≡ b = λ w0 t. sym (ap₂ (λ (x y : Bool). x || y) (c.is_broken.ensures ∙ ap (λ (k : Layout). card_broken k (meaning_on k ((bits_of_bytes (c.args.bytes.now))))) (layout_is))
     (c.filler_set.ensures ∙ ap (λ (k : Layout). filler_set k ((bits_of_bytes (c.args.bytes.now)))) (layout_is)))
     ∙ t in
-    let past : {answer : CardJudged} → Reads (Readable ((layout_or1 (layout_on ((bits_of_bytes (c.args.bytes.now))))))) (drop 3 (reading_table (c.args.bytes.now) ((bits_of_bytes (c.args.bytes.now))) ((layout_or1 (layout_on ((bits_of_bytes (c.args.bytes.now)))))) (c.args.rows))) answer → answer ≡ judged_of (c.args.bytes.now) (c.args.rows) = λ r. judged (c.args.bytes.now) (c.args.rows) (next (long) (next (of_length c.if-not-bytes-card_size.left) (next (known) r))) in
-    let of-need : {b : Bool} → c.is_needless.result ≡ b → needless ((layout_or1 (layout_on ((bits_of_bytes (c.args.bytes.now)))))) (meaning_on ((layout_or1 (layout_on ((bits_of_bytes (c.args.bytes.now)))))) ((bits_of_bytes (c.args.bytes.now)))) ≡ b = λ t. told (c.is_needless.ensures ∙ all_said needless) t in
-    let beyond : {answer : CardJudged} → Reads (Readable ((layout_or1 (layout_on ((bits_of_bytes (c.args.bytes.now))))))) (drop 4 (reading_table (c.args.bytes.now) ((bits_of_bytes (c.args.bytes.now))) ((layout_or1 (layout_on ((bits_of_bytes (c.args.bytes.now)))))) (c.args.rows))) answer → answer ≡ judged_of (c.args.bytes.now) (c.args.rows) = λ r. past (next (of-rules.if4.false) r) in
-    beyond (here (of-need c.if-is_needless.true))
+    let past : (answer : CardJudged) → Reads (Readable ((layout_or1 (layout_on ((bits_of_bytes (c.args.bytes.now))))))) (drop 3 (reading_table (c.args.bytes.now) ((bits_of_bytes (c.args.bytes.now))) ((layout_or1 (layout_on ((bits_of_bytes (c.args.bytes.now)))))) (c.args.rows))) answer → answer ≡ judged_of (c.args.bytes.now) (c.args.rows) = λ w0 r. judged (c.args.bytes.now) (c.args.rows) (next (long) (next (of_length _ (ap not c.if-not-bytes-card_size.false)) (next (known) r))) in
+    let of-need : (b : Bool) → c.is_needless.result ≡ b → needless ((layout_or1 (layout_on ((bits_of_bytes (c.args.bytes.now)))))) (meaning_on ((layout_or1 (layout_on ((bits_of_bytes (c.args.bytes.now)))))) ((bits_of_bytes (c.args.bytes.now)))) ≡ b = λ w0 t. told (c.is_needless.ensures ∙ ap (λ (k : Layout). needless k (meaning_on k ((bits_of_bytes (c.args.bytes.now))))) (layout_is)) t in
+    let beyond : (answer : CardJudged) → Reads (Readable ((layout_or1 (layout_on ((bits_of_bytes (c.args.bytes.now))))))) (drop 4 (reading_table (c.args.bytes.now) ((bits_of_bytes (c.args.bytes.now))) ((layout_or1 (layout_on ((bits_of_bytes (c.args.bytes.now)))))) (c.args.rows))) answer → answer ≡ judged_of (c.args.bytes.now) (c.args.rows) = λ w0 r. past _ (next (of-rules _.if4.false) r) in
+    beyond _ (here (of-need _ c.if-is_needless.true))
 
 pub returns-then-rows-count : goal.returns-then-rows-count
 returns-then-rows-count c =
@@ -164,25 +146,21 @@ returns-then-rows-count c =
     let layout_is : c.layout_or_1-l.result ≡ ((layout_or1 (layout_on ((bits_of_bytes (c.args.bytes.now)))))) = c.layout_or_1-l.ensures ∙ ap layout_or1 (found-is) in
     let known_is : c.is_found-known.result ≡ is_found (layout_on ((bits_of_bytes (c.args.bytes.now)))) = c.is_found-known.ensures ∙ ap is_found (found-is) in
     let long : ltb (length (c.args.bytes.now)) 7 ≡ false = c.if-short.false in
-    let known : not (is_found (layout_on ((bits_of_bytes (c.args.bytes.now))))) ≡ false = told-not (known_is) c.if-not-known.false in
+    let known : not (is_found (layout_on ((bits_of_bytes (c.args.bytes.now))))) ≡ false = told-not (known_is) (ap not c.if-not-known.false) in
     let count-is : c.count_on-count.result ≡ count_on ((layout_or1 (layout_on ((bits_of_bytes (c.args.bytes.now)))))) ((bits_of_bytes (c.args.bytes.now))) = c.count_on-count.ensures.0 ∙ ap (λ (k : Layout). count_on k ((bits_of_bytes (c.args.bytes.now)))) (layout_is) in
     let size_is : c.card_size.result ≡ card_size ((layout_or1 (layout_on ((bits_of_bytes (c.args.bytes.now)))))) (count_on ((layout_or1 (layout_on ((bits_of_bytes (c.args.bytes.now)))))) ((bits_of_bytes (c.args.bytes.now)))) = c.card_size.ensures ∙ ap₂ card_size (layout_is) (count-is) in
-    let of_length : {b : Bool} → not (eqb (length (c.args.bytes.now)) c.card_size.result) ≡ b →
-    is_found (layout_on ((bits_of_bytes (c.args.bytes.now)))) && not (eqb (length (c.args.bytes.now)) (card_size ((layout_or1 (layout_on ((bits_of_bytes (c.args.bytes.now)))))) (count_on ((layout_or1 (layout_on ((bits_of_bytes (c.args.bytes.now)))))) ((bits_of_bytes (c.args.bytes.now)))))) ≡ b = λ t. ap (λ (k : Bool). k && not (eqb (length (c.args.bytes.now)) (card_size ((layout_or1 (layout_on ((bits_of_bytes (c.args.bytes.now)))))) (count_on ((layout_or1 (layout_on ((bits_of_bytes (c.args.bytes.now)))))) ((bits_of_bytes (c.args.bytes.now))))))) (not-false (is_found (layout_on ((bits_of_bytes (c.args.bytes.now))))) (known))
+    let of_length : (b : Bool) → not (eqb (length (c.args.bytes.now)) c.card_size.result) ≡ b →
+    is_found (layout_on ((bits_of_bytes (c.args.bytes.now)))) && not (eqb (length (c.args.bytes.now)) (card_size ((layout_or1 (layout_on ((bits_of_bytes (c.args.bytes.now)))))) (count_on ((layout_or1 (layout_on ((bits_of_bytes (c.args.bytes.now)))))) ((bits_of_bytes (c.args.bytes.now)))))) ≡ b = λ w0 t. ap (λ (k : Bool). k && not (eqb (length (c.args.bytes.now)) (card_size ((layout_or1 (layout_on ((bits_of_bytes (c.args.bytes.now)))))) (count_on ((layout_or1 (layout_on ((bits_of_bytes (c.args.bytes.now)))))) ((bits_of_bytes (c.args.bytes.now))))))) (not-false (is_found (layout_on ((bits_of_bytes (c.args.bytes.now))))) (known))
     ∙ ap (λ (n : ℕ). not (eqb (length (c.args.bytes.now)) n)) (sym (size_is))
     ∙ t in
-    let all_said : (holds : Layout → Meaning → Bool) →
-    holds c.layout_or_1-l.result (with_first c.layout_or_1-l.result ((bits_of_bytes (c.args.bytes.now))) c.header_on-h.result c.count-on.result) ≡ holds ((layout_or1 (layout_on ((bits_of_bytes (c.args.bytes.now)))))) (meaning_on ((layout_or1 (layout_on ((bits_of_bytes (c.args.bytes.now)))))) ((bits_of_bytes (c.args.bytes.now)))) = λ holds. let k = c.layout_or_1-l.result in
-    ap₂ (λ (h : Header) (n : ℕ). holds k (with_first k ((bits_of_bytes (c.args.bytes.now))) h n)) c.header_on-h.ensures c.count-on.ensures.0
-    ∙ ap (λ (x : Layout). holds x (meaning_on x ((bits_of_bytes (c.args.bytes.now))))) (layout_is) in
-    let of-rules : {b : Bool} → c.is_broken.result || c.filler_set.result ≡ b → card_broken ((layout_or1 (layout_on ((bits_of_bytes (c.args.bytes.now)))))) (meaning_on ((layout_or1 (layout_on ((bits_of_bytes (c.args.bytes.now)))))) ((bits_of_bytes (c.args.bytes.now)))) || filler_set ((layout_or1 (layout_on ((bits_of_bytes (c.args.bytes.now)))))) ((bits_of_bytes (c.args.bytes.now))) ≡ b = λ t. sym (ap₂ (λ (x y : Bool). x || y) (c.is_broken.ensures ∙ all_said card_broken)
+    let of-rules : (b : Bool) → c.is_broken.result || c.filler_set.result ≡ b → card_broken ((layout_or1 (layout_on ((bits_of_bytes (c.args.bytes.now)))))) (meaning_on ((layout_or1 (layout_on ((bits_of_bytes (c.args.bytes.now)))))) ((bits_of_bytes (c.args.bytes.now)))) || filler_set ((layout_or1 (layout_on ((bits_of_bytes (c.args.bytes.now)))))) ((bits_of_bytes (c.args.bytes.now))) ≡ b = λ w0 t. sym (ap₂ (λ (x y : Bool). x || y) (c.is_broken.ensures ∙ ap (λ (k : Layout). card_broken k (meaning_on k ((bits_of_bytes (c.args.bytes.now))))) (layout_is))
     (c.filler_set.ensures ∙ ap (λ (k : Layout). filler_set k ((bits_of_bytes (c.args.bytes.now)))) (layout_is)))
     ∙ t in
-    let past : {answer : CardJudged} → Reads (Readable ((layout_or1 (layout_on ((bits_of_bytes (c.args.bytes.now))))))) (drop 3 (reading_table (c.args.bytes.now) ((bits_of_bytes (c.args.bytes.now))) ((layout_or1 (layout_on ((bits_of_bytes (c.args.bytes.now)))))) (c.args.rows))) answer → answer ≡ judged_of (c.args.bytes.now) (c.args.rows) = λ r. judged (c.args.bytes.now) (c.args.rows) (next (long) (next (of_length c.if-not-bytes-card_size.left) (next (known) r))) in
-    let of-need : {b : Bool} → c.is_needless.result ≡ b → needless ((layout_or1 (layout_on ((bits_of_bytes (c.args.bytes.now)))))) (meaning_on ((layout_or1 (layout_on ((bits_of_bytes (c.args.bytes.now)))))) ((bits_of_bytes (c.args.bytes.now)))) ≡ b = λ t. told (c.is_needless.ensures ∙ all_said needless) t in
-    let beyond : {answer : CardJudged} → Reads (Readable ((layout_or1 (layout_on ((bits_of_bytes (c.args.bytes.now))))))) (drop 4 (reading_table (c.args.bytes.now) ((bits_of_bytes (c.args.bytes.now))) ((layout_or1 (layout_on ((bits_of_bytes (c.args.bytes.now)))))) (c.args.rows))) answer → answer ≡ judged_of (c.args.bytes.now) (c.args.rows) = λ r. past (next (of-rules.if4.false) r) in
+    let past : (answer : CardJudged) → Reads (Readable ((layout_or1 (layout_on ((bits_of_bytes (c.args.bytes.now))))))) (drop 3 (reading_table (c.args.bytes.now) ((bits_of_bytes (c.args.bytes.now))) ((layout_or1 (layout_on ((bits_of_bytes (c.args.bytes.now)))))) (c.args.rows))) answer → answer ≡ judged_of (c.args.bytes.now) (c.args.rows) = λ w0 r. judged (c.args.bytes.now) (c.args.rows) (next (long) (next (of_length _ (ap not c.if-not-bytes-card_size.false)) (next (known) r))) in
+    let of-need : (b : Bool) → c.is_needless.result ≡ b → needless ((layout_or1 (layout_on ((bits_of_bytes (c.args.bytes.now)))))) (meaning_on ((layout_or1 (layout_on ((bits_of_bytes (c.args.bytes.now)))))) ((bits_of_bytes (c.args.bytes.now)))) ≡ b = λ w0 t. told (c.is_needless.ensures ∙ ap (λ (k : Layout). needless k (meaning_on k ((bits_of_bytes (c.args.bytes.now))))) (layout_is)) t in
+    let beyond : (answer : CardJudged) → Reads (Readable ((layout_or1 (layout_on ((bits_of_bytes (c.args.bytes.now))))))) (drop 4 (reading_table (c.args.bytes.now) ((bits_of_bytes (c.args.bytes.now))) ((layout_or1 (layout_on ((bits_of_bytes (c.args.bytes.now)))))) (c.args.rows))) answer → answer ≡ judged_of (c.args.bytes.now) (c.args.rows) = λ w0 r. past _ (next (of-rules _.if4.false) r) in
     let counted : (holds : ℕ → Type 0) → holds c.count_on-count.result → holds (count_on ((layout_or1 (layout_on ((bits_of_bytes (c.args.bytes.now)))))) ((bits_of_bytes (c.args.bytes.now)))) = λ holds h. subst holds (count-is) h in
-    beyond (next (of-need c.if-is_needless.false) (here (lt-ltb _ _ (counted (λ (n : ℕ). c.args.rows < n) c.if-rows-count.true))))
+    beyond _ (next (of-need _ c.if-is_needless.false) (here (lt-ltb _ _ (counted (λ (n : ℕ). c.args.rows < n) c.if-rows-count.true))))
 
 pub returns : goal.returns
 returns c =
@@ -190,23 +168,19 @@ returns c =
     let layout_is : c.layout_or_1-l.result ≡ ((layout_or1 (layout_on ((bits_of_bytes (c.args.bytes.now)))))) = c.layout_or_1-l.ensures ∙ ap layout_or1 (found-is) in
     let known_is : c.is_found-known.result ≡ is_found (layout_on ((bits_of_bytes (c.args.bytes.now)))) = c.is_found-known.ensures ∙ ap is_found (found-is) in
     let long : ltb (length (c.args.bytes.now)) 7 ≡ false = c.if-short.false in
-    let known : not (is_found (layout_on ((bits_of_bytes (c.args.bytes.now))))) ≡ false = told-not (known_is) c.if-not-known.false in
+    let known : not (is_found (layout_on ((bits_of_bytes (c.args.bytes.now))))) ≡ false = told-not (known_is) (ap not c.if-not-known.false) in
     let count-is : c.count_on-count.result ≡ count_on ((layout_or1 (layout_on ((bits_of_bytes (c.args.bytes.now)))))) ((bits_of_bytes (c.args.bytes.now))) = c.count_on-count.ensures.0 ∙ ap (λ (k : Layout). count_on k ((bits_of_bytes (c.args.bytes.now)))) (layout_is) in
     let size_is : c.card_size.result ≡ card_size ((layout_or1 (layout_on ((bits_of_bytes (c.args.bytes.now)))))) (count_on ((layout_or1 (layout_on ((bits_of_bytes (c.args.bytes.now)))))) ((bits_of_bytes (c.args.bytes.now)))) = c.card_size.ensures ∙ ap₂ card_size (layout_is) (count-is) in
-    let of_length : {b : Bool} → not (eqb (length (c.args.bytes.now)) c.card_size.result) ≡ b →
-    is_found (layout_on ((bits_of_bytes (c.args.bytes.now)))) && not (eqb (length (c.args.bytes.now)) (card_size ((layout_or1 (layout_on ((bits_of_bytes (c.args.bytes.now)))))) (count_on ((layout_or1 (layout_on ((bits_of_bytes (c.args.bytes.now)))))) ((bits_of_bytes (c.args.bytes.now)))))) ≡ b = λ t. ap (λ (k : Bool). k && not (eqb (length (c.args.bytes.now)) (card_size ((layout_or1 (layout_on ((bits_of_bytes (c.args.bytes.now)))))) (count_on ((layout_or1 (layout_on ((bits_of_bytes (c.args.bytes.now)))))) ((bits_of_bytes (c.args.bytes.now))))))) (not-false (is_found (layout_on ((bits_of_bytes (c.args.bytes.now))))) (known))
+    let of_length : (b : Bool) → not (eqb (length (c.args.bytes.now)) c.card_size.result) ≡ b →
+    is_found (layout_on ((bits_of_bytes (c.args.bytes.now)))) && not (eqb (length (c.args.bytes.now)) (card_size ((layout_or1 (layout_on ((bits_of_bytes (c.args.bytes.now)))))) (count_on ((layout_or1 (layout_on ((bits_of_bytes (c.args.bytes.now)))))) ((bits_of_bytes (c.args.bytes.now)))))) ≡ b = λ w0 t. ap (λ (k : Bool). k && not (eqb (length (c.args.bytes.now)) (card_size ((layout_or1 (layout_on ((bits_of_bytes (c.args.bytes.now)))))) (count_on ((layout_or1 (layout_on ((bits_of_bytes (c.args.bytes.now)))))) ((bits_of_bytes (c.args.bytes.now))))))) (not-false (is_found (layout_on ((bits_of_bytes (c.args.bytes.now))))) (known))
     ∙ ap (λ (n : ℕ). not (eqb (length (c.args.bytes.now)) n)) (sym (size_is))
     ∙ t in
-    let all_said : (holds : Layout → Meaning → Bool) →
-    holds c.layout_or_1-l.result (with_first c.layout_or_1-l.result ((bits_of_bytes (c.args.bytes.now))) c.header_on-h.result c.count-on.result) ≡ holds ((layout_or1 (layout_on ((bits_of_bytes (c.args.bytes.now)))))) (meaning_on ((layout_or1 (layout_on ((bits_of_bytes (c.args.bytes.now)))))) ((bits_of_bytes (c.args.bytes.now)))) = λ holds. let k = c.layout_or_1-l.result in
-    ap₂ (λ (h : Header) (n : ℕ). holds k (with_first k ((bits_of_bytes (c.args.bytes.now))) h n)) c.header_on-h.ensures c.count-on.ensures.0
-    ∙ ap (λ (x : Layout). holds x (meaning_on x ((bits_of_bytes (c.args.bytes.now))))) (layout_is) in
-    let of-rules : {b : Bool} → c.is_broken.result || c.filler_set.result ≡ b → card_broken ((layout_or1 (layout_on ((bits_of_bytes (c.args.bytes.now)))))) (meaning_on ((layout_or1 (layout_on ((bits_of_bytes (c.args.bytes.now)))))) ((bits_of_bytes (c.args.bytes.now)))) || filler_set ((layout_or1 (layout_on ((bits_of_bytes (c.args.bytes.now)))))) ((bits_of_bytes (c.args.bytes.now))) ≡ b = λ t. sym (ap₂ (λ (x y : Bool). x || y) (c.is_broken.ensures ∙ all_said card_broken)
+    let of-rules : (b : Bool) → c.is_broken.result || c.filler_set.result ≡ b → card_broken ((layout_or1 (layout_on ((bits_of_bytes (c.args.bytes.now)))))) (meaning_on ((layout_or1 (layout_on ((bits_of_bytes (c.args.bytes.now)))))) ((bits_of_bytes (c.args.bytes.now)))) || filler_set ((layout_or1 (layout_on ((bits_of_bytes (c.args.bytes.now)))))) ((bits_of_bytes (c.args.bytes.now))) ≡ b = λ w0 t. sym (ap₂ (λ (x y : Bool). x || y) (c.is_broken.ensures ∙ ap (λ (k : Layout). card_broken k (meaning_on k ((bits_of_bytes (c.args.bytes.now))))) (layout_is))
     (c.filler_set.ensures ∙ ap (λ (k : Layout). filler_set k ((bits_of_bytes (c.args.bytes.now)))) (layout_is)))
     ∙ t in
-    let past : {answer : CardJudged} → Reads (Readable ((layout_or1 (layout_on ((bits_of_bytes (c.args.bytes.now))))))) (drop 3 (reading_table (c.args.bytes.now) ((bits_of_bytes (c.args.bytes.now))) ((layout_or1 (layout_on ((bits_of_bytes (c.args.bytes.now)))))) (c.args.rows))) answer → answer ≡ judged_of (c.args.bytes.now) (c.args.rows) = λ r. judged (c.args.bytes.now) (c.args.rows) (next (long) (next (of_length c.if-not-bytes-card_size.left) (next (known) r))) in
-    let of-need : {b : Bool} → c.is_needless.result ≡ b → needless ((layout_or1 (layout_on ((bits_of_bytes (c.args.bytes.now)))))) (meaning_on ((layout_or1 (layout_on ((bits_of_bytes (c.args.bytes.now)))))) ((bits_of_bytes (c.args.bytes.now)))) ≡ b = λ t. told (c.is_needless.ensures ∙ all_said needless) t in
-    let beyond : {answer : CardJudged} → Reads (Readable ((layout_or1 (layout_on ((bits_of_bytes (c.args.bytes.now))))))) (drop 4 (reading_table (c.args.bytes.now) ((bits_of_bytes (c.args.bytes.now))) ((layout_or1 (layout_on ((bits_of_bytes (c.args.bytes.now)))))) (c.args.rows))) answer → answer ≡ judged_of (c.args.bytes.now) (c.args.rows) = λ r. past (next (of-rules.if4.false) r) in
+    let past : (answer : CardJudged) → Reads (Readable ((layout_or1 (layout_on ((bits_of_bytes (c.args.bytes.now))))))) (drop 3 (reading_table (c.args.bytes.now) ((bits_of_bytes (c.args.bytes.now))) ((layout_or1 (layout_on ((bits_of_bytes (c.args.bytes.now)))))) (c.args.rows))) answer → answer ≡ judged_of (c.args.bytes.now) (c.args.rows) = λ w0 r. judged (c.args.bytes.now) (c.args.rows) (next (long) (next (of_length _ (ap not c.if-not-bytes-card_size.false)) (next (known) r))) in
+    let of-need : (b : Bool) → c.is_needless.result ≡ b → needless ((layout_or1 (layout_on ((bits_of_bytes (c.args.bytes.now)))))) (meaning_on ((layout_or1 (layout_on ((bits_of_bytes (c.args.bytes.now)))))) ((bits_of_bytes (c.args.bytes.now)))) ≡ b = λ w0 t. told (c.is_needless.ensures ∙ ap (λ (k : Layout). needless k (meaning_on k ((bits_of_bytes (c.args.bytes.now))))) (layout_is)) t in
+    let beyond : (answer : CardJudged) → Reads (Readable ((layout_or1 (layout_on ((bits_of_bytes (c.args.bytes.now))))))) (drop 4 (reading_table (c.args.bytes.now) ((bits_of_bytes (c.args.bytes.now))) ((layout_or1 (layout_on ((bits_of_bytes (c.args.bytes.now)))))) (c.args.rows))) answer → answer ≡ judged_of (c.args.bytes.now) (c.args.rows) = λ w0 r. past _ (next (of-rules _.if4.false) r) in
     let counted : (holds : ℕ → Type 0) → holds c.count_on-count.result → holds (count_on ((layout_or1 (layout_on ((bits_of_bytes (c.args.bytes.now)))))) ((bits_of_bytes (c.args.bytes.now)))) = λ holds h. subst holds (count-is) h in
     ap Readable (layout_is)
-    ∙ beyond (next (of-need c.if-is_needless.false) (next (le-ltb _ _ (counted (λ (n : ℕ). n ≤ c.args.rows) c.if-rows-count.false)) end))
+    ∙ beyond _ (next (of-need _ c.if-is_needless.false) (next (le-ltb _ _ (counted (λ (n : ℕ). n ≤ c.args.rows) c.if-rows-count.false)) end))

@@ -16,10 +16,10 @@ pub loop-k-init : goal.loop-k-init
 loop-k-init c = (reached-start c.requires, stocked-start _ refl)
 
 pub overflow_mul-start : goal.overflow_mul-start
-overflow_mul-start c = omega (arith, c.ranges, c.well_formed, frame-fits c.loop-k.k.loop.invariant.0.ready c.loop-k-test.true)
+overflow_mul-start c = omega (arith, c.ranges, c.well_formed, frame-fits c.loop-k.k c.loop-k.invariant.0.ready c.loop-k-test.true)
 
 pub frame_energy-energy-requires : goal.frame_energy-energy-requires
-frame_energy-energy-requires c = (frame-fits c.loop-k.k.loop.invariant.0.ready c.loop-k-test.true, c.loop-k.invariant.0.ready.small)
+frame_energy-energy-requires c = (frame-fits c.loop-k.k c.loop-k.invariant.0.ready c.loop-k-test.true, c.loop-k.invariant.0.ready.small)
 
 pub supply-handed-requires : goal.supply-handed-requires
 supply-handed-requires c =
@@ -46,10 +46,10 @@ shape_of-energies-then-not-is_whole c = c.loop-k.invariant.0.energies.long
 pub returns-then-not-is_whole : goal.returns-then-not-is_whole
 unfolding energy_at
 returns-then-not-is_whole c =
-    let heard-loud : loud (energy_at ((let a = c.args in call_of a.settings a.head a.samples.now a.window.now a.coefficients.now a.weights.now a.lengths.now a.qcoefficients.now a.qwindows.now)) (c.loop-k.k)) ≡ true = heard c.loop-k.invariant.0 c.frame_energy-energy.ensures c.is_loud.ensures c.if-is_loud.taken in
+    let heard-loud : loud (energy_at ((let a = c.args in call_of a.settings a.head a.samples.now a.window.now a.coefficients.now a.weights.now a.lengths.now a.qcoefficients.now a.qwindows.now)) (c.loop-k.k)) ≡ true = heard c.loop-k.invariant.0 c.frame_energy-energy.ensures c.is_loud.ensures c.if-is_loud.true in
     let same_row : c.frame_row-row.result ≡ frame_row ((let a = c.args in call_of a.settings a.head a.samples.now a.window.now a.coefficients.now a.weights.now a.lengths.now a.qcoefficients.now a.qwindows.now)) (c.loop-k.k) = row_is c.loop-k.invariant.0 c.frame_energy-energy.ensures c.supply-handed.ensures.told c.frame_row-row.ensures in
     let r = c.loop-k.invariant.0 in
-    reached-broken r c.loop-k-test.taken (heard-loud) (judged r (same_row) c.is_whole.ensures c.if-not-is_whole.true)
+    reached-broken r c.loop-k-test.true (heard-loud) (judged r (same_row) c.is_whole.ensures c.if-not-is_whole.true)
 
 pub put_row-requires : goal.put_row-requires
 put_row-requires c =
@@ -65,10 +65,10 @@ overflow_add-n c = omega (arith, c.loop-k.invariant.0.few, c.loop-k-test.true)
 pub loop-k-preserved-else-not-is_whole : goal.loop-k-preserved-else-not-is_whole
 unfolding energy_at
 loop-k-preserved-else-not-is_whole c =
-    let heard-loud : loud (energy_at ((let a = c.args in call_of a.settings a.head a.samples.now a.window.now a.coefficients.now a.weights.now a.lengths.now a.qcoefficients.now a.qwindows.now)) (c.loop-k.k)) ≡ true = heard c.loop-k.invariant.0 c.frame_energy-energy.ensures c.is_loud.ensures c.if-is_loud.taken in
+    let heard-loud : loud (energy_at ((let a = c.args in call_of a.settings a.head a.samples.now a.window.now a.coefficients.now a.weights.now a.lengths.now a.qcoefficients.now a.qwindows.now)) (c.loop-k.k)) ≡ true = heard c.loop-k.invariant.0 c.frame_energy-energy.ensures c.is_loud.ensures c.if-is_loud.true in
     let same_row : c.frame_row-row.result ≡ frame_row ((let a = c.args in call_of a.settings a.head a.samples.now a.window.now a.coefficients.now a.weights.now a.lengths.now a.qcoefficients.now a.qwindows.now)) (c.loop-k.k) = row_is c.loop-k.invariant.0 c.frame_energy-energy.ensures c.supply-handed.ensures.told c.frame_row-row.ensures in
     let r = c.loop-k.invariant.0 in
-    let reached = reached-loud r (same_row) c.put_row.ensures c.loop-k-test.taken (heard-loud) (judged r (same_row) c.is_whole.ensures c.if-not-is_whole.false) in
+    let reached = reached-loud r (same_row) c.put_row.ensures c.loop-k-test.true (heard-loud) (judged r (same_row) c.is_whole.ensures c.if-not-is_whole.false) in
     (reached, stocked-loud {c = (let a = c.args in call_of a.settings a.head a.samples.now a.window.now a.coefficients.now a.weights.now a.lengths.now a.qcoefficients.now a.qwindows.now)} c.supply-handed.ensures)
 
 pub loop-k-preserved : goal.loop-k-preserved

@@ -1,0 +1,21 @@
+-- The loop's invariant: the search goes on from i, and `previous` is where segment i has to start.
+use mathlib.Core.Path.{◌≡◌, refl, sym, ap, ◌∙◌}
+use mathlib.Core.Bool.{not}
+use Prim.Native.Nat.{ℕ, ◌-◌, ◌≤◌}
+use native.Mathlib.Numerals.{add-one}
+use native.Mathlib.Omega.{arith}
+use lib.ListN.{length, get_or}
+use lib.Ieee.{Float, nan, eq, of_bits}
+use borrow.Author.Rules.{rules}
+use Rattle.laws.specs.First.{first}
+use Rattle.laws.specs.Values.{plus_zero}
+use Rattle.laws.proofs.First.{first_start, first-again, first_out, first-end}
+use Rattle.card.specs.Rules.{before}
+use Rattle.card_judge.specs.Analysed.{gap_at, first_gap}
+use Rattle.card_judge.proofs.analysed.first_gap.Given as goal
+
+abbrev pub invariant-loop-i : goal.invariant-loop-i
+invariant-loop-i l = (l.i ≤ l.count) × (first (gap_at l.starts l.ends) (l.count - l.i) l.i ≡ first_gap l.starts l.ends) × (l.previous ≡ before plus_zero (λ (k : ℕ). get_or l.ends k nan) l.i)
+
+abbrev pub decreases-loop-i : goal.decreases-loop-i
+decreases-loop-i l = l.count - l.i

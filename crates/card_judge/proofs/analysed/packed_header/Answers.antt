@@ -1,0 +1,6 @@
+-- The callees' definitions, put together.
+use borrow.Author.Rules.{rules}
+use Rattle.card_judge.proofs.analysed.packed_header.Goals as goal
+
+pub returns : goal.returns
+returns c = cc

@@ -1,0 +1,7 @@
+-- The callees' definitions, put together.
+use mathlib.Core.Path.{◌∙◌}
+use borrow.Author.Rules.{rules}
+use Rattle.probe.proofs.keys_by_number.probe_key_number.Goals as goal
+
+pub returns : goal.returns
+returns c = c.key_number.ensures ∙ rw c.key_from_index-key.ensures

@@ -1,0 +1,14 @@
+-- The sum so far, or 2^32 where it has come to that.
+use borrow.Author.Rules.{rules}
+use mathlib.Core.Path.{◌≡◌, refl, ap, ◌∙◌}
+use Prim.Native.Nat.{ℕ, ◌-◌, ◌≤◌, min}
+use native.Mathlib.Omega.{arith}
+use Rattle.probe_segments.specs.Segments.{counts_upto}
+use Rattle.probe_segments.proofs.Segmenting.{held_below, counts-more}
+use Rattle.probe_segments.proofs.segments_of_rows.few_windows.Given as goal
+
+abbrev pub invariant-loop-i : goal.invariant-loop-i
+invariant-loop-i l = (l.i ≤ l.count) × (l.total ≡ min (counts_upto l.counts l.i) 4_294_967_296)
+
+abbrev pub decreases-loop-i : goal.decreases-loop-i
+decreases-loop-i l = l.count - l.i

@@ -1,0 +1,52 @@
+-- Past the guard all keys are numbers and the counts fit.
+use mathlib.Core.Bool.{not}
+use borrow.Author.Rules.{rules}
+use mathlib.Core.Path.{refl, ap}
+use Rattle.timeline.specs.inside.Segments.{segment_rows}
+use Rattle.probe_segments.proofs.Segmenting.{not-shortened, shorten-needs, shortened}
+use Rattle.probe_segments.proofs.segments_of_rows.probe_shorten.Goals as goal
+
+pub shape_of-starts-then-not-can_shorten : goal.shape_of-starts-then-not-can_shorten
+shape_of-starts-then-not-can_shorten c = refl
+
+pub shape_of-ends-then-not-can_shorten : goal.shape_of-ends-then-not-can_shorten
+shape_of-ends-then-not-can_shorten c = refl
+
+pub shape_of-keys-then-not-can_shorten : goal.shape_of-keys-then-not-can_shorten
+shape_of-keys-then-not-can_shorten c = refl
+
+pub shape_of-confidences-then-not-can_shorten : goal.shape_of-confidences-then-not-can_shorten
+shape_of-confidences-then-not-can_shorten c = refl
+
+pub shape_of-counts-then-not-can_shorten : goal.shape_of-counts-then-not-can_shorten
+shape_of-counts-then-not-can_shorten c = refl
+
+pub returns-then-not-can_shorten : goal.returns-then-not-can_shorten
+returns-then-not-can_shorten c =
+    let args = c.args in
+    not-shortened args.least (segment_rows args.starts.now args.ends.now args.keys.now args.confidences.now args.counts.now) c.segment_room-count.ensures c.can_shorten.ensures (ap not c.if-not-can_shorten.true)
+
+pub shorten_segments-requires : goal.shorten_segments-requires
+shorten_segments-requires c =
+    let args = c.args in
+    shorten-needs args.least (segment_rows args.starts.now args.ends.now args.keys.now args.confidences.now args.counts.now) c.segment_room-count.ensures c.can_shorten.ensures (ap not c.if-not-can_shorten.false)
+
+pub shape_of-starts : goal.shape_of-starts
+shape_of-starts c = c.starts-1.given
+
+pub shape_of-ends : goal.shape_of-ends
+shape_of-ends c = c.ends-1.given
+
+pub shape_of-keys : goal.shape_of-keys
+shape_of-keys c = c.keys-1.given
+
+pub shape_of-confidences : goal.shape_of-confidences
+shape_of-confidences c = c.confidences-1.given
+
+pub shape_of-counts : goal.shape_of-counts
+shape_of-counts c = c.counts-1.given
+
+pub returns : goal.returns
+returns c =
+    let args = c.args in
+    shortened args.least (segment_rows args.starts.now args.ends.now args.keys.now args.confidences.now args.counts.now) c.segment_room-count.ensures c.can_shorten.ensures (ap not c.if-not-can_shorten.false) c.shorten_segments.ensures

@@ -1,0 +1,18 @@
+-- A number a turn, joined to those before.
+use borrow.Author.Rules.{rules}
+use mathlib.Core.Path.{◌≡◌, refl}
+use native.Mathlib.Omega.{arith}
+use Prim.Native.Nat.{ℕ, ◌+◌, ◌*◌, ◌≤◌, ◌-◌}
+use Rattle.laws.specs.Every.{every}
+use Rattle.laws.proofs.Every.{every_more, every-all}
+use lib.Dec.{eqb}
+use lib.ListN.{length, get_or}
+use Rattle.replayed.specs.Records.{word_at}
+use Rattle.stored_analyses.specs.Rows.{same_numbers}
+use Rattle.stored_analyses.proofs.rows.counts_agree.Given as goal
+
+abbrev pub invariant-loop-i : goal.invariant-loop-i
+invariant-loop-i l = (l.i ≤ length l.counts) × (l.same ≡ every (λ (k : ℕ). eqb (get_or l.counts k 0) (word_at l.bytes (l.at + 4 * k))) l.i)
+
+abbrev pub decreases-loop-i : goal.decreases-loop-i
+decreases-loop-i l = length l.counts - l.i

@@ -1,0 +1,16 @@
+-- The slice is written from the front, a value a turn.
+use borrow.Author.Rules.{rules}
+use mathlib.Core.Path.{refl}
+use native.Mathlib.Omega.{arith}
+use Prim.Native.Nat.{ℕ, ◌+◌, ◌*◌, ◌≤◌, ◌-◌}
+use lib.ListN.{length}
+use Rattle.laws.proofs.Front.{Filled, filled-start, filled_more, filled-whole}
+use Rattle.replayed.specs.Records.{value_at}
+use Rattle.stored_analyses.specs.Stored.{values_at}
+use Rattle.stored_analyses.proofs.stored.read_values.Given as goal
+
+abbrev pub invariant-loop-i : goal.invariant-loop-i
+invariant-loop-i l = (l.i ≤ length l.initial.values) × Filled (λ (k : ℕ). value_at l.bytes (l.at + 4 * k)) l.initial.values l.values l.i
+
+abbrev pub decreases-loop-i : goal.decreases-loop-i
+decreases-loop-i l = length l.initial.values - l.i
