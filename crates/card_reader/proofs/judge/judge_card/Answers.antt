@@ -7,7 +7,7 @@ use native.Mathlib.Omega.{arith}
 use lib.Dec.{eqb, ltb}
 use lib.ListN.{length, drop}
 use borrow.Author.Rules.{rules}
-use borrow.Author.Tests.{lt-ltb, le-ltb, ltb-false, eqb-true, not-false}
+use borrow.Author.Tests.{lt-ltb, le-ltb, ltb-false, eq-eqb, ne_eqb, not-false}
 use Rattle.laws.proofs.Table.{Reads, here, next, end, reads, told, told-not}
 use Rattle.bits.specs.Bits.{bits_of_bytes}
 use Rattle.card.specs.Layout.{layouts, numbered_in, is_found, layout_or1}
@@ -32,21 +32,21 @@ unknown-length true false t = sym t
 unknown-length false same t = refl
 
 pub returns-then-short : goal.returns-then-short
-returns-then-short c = judged (c.args.bytes.now) c.args.rows (here c.if-short.true)
+returns-then-short c = judged (c.args.bytes.now) c.args.rows (here (lt-ltb _ _ c.if-short.true))
 
 pub returns-then-not-known : goal.returns-then-not-known
 returns-then-not-known c =
     let found-is : c.layout_numbered-found.result ≡ layout_on ((bits_of_bytes (c.args.bytes.now))) = c.layout_numbered-found.ensures ∙ ap (numbered_in layouts) c.number_on.ensures in
     let known_is : c.is_found-known.result ≡ is_found (layout_on ((bits_of_bytes (c.args.bytes.now)))) = c.is_found-known.ensures ∙ ap is_found (found-is) in
     let unknown = told-not (known_is) (ap not c.if-not-known.true) in
-    judged (c.args.bytes.now) c.args.rows (next c.if-short.false (next (unknown-length (is_found (layout_on ((bits_of_bytes (c.args.bytes.now))))) (eqb (length (c.args.bytes.now)) (card_size ((layout_or1 (layout_on ((bits_of_bytes (c.args.bytes.now)))))) (count_on ((layout_or1 (layout_on ((bits_of_bytes (c.args.bytes.now)))))) ((bits_of_bytes (c.args.bytes.now)))))) unknown) (here unknown)))
+    judged (c.args.bytes.now) c.args.rows (next (le-ltb _ _ c.if-short.false) (next (unknown-length (is_found (layout_on ((bits_of_bytes (c.args.bytes.now))))) (eqb (length (c.args.bytes.now)) (card_size ((layout_or1 (layout_on ((bits_of_bytes (c.args.bytes.now)))))) (count_on ((layout_or1 (layout_on ((bits_of_bytes (c.args.bytes.now)))))) ((bits_of_bytes (c.args.bytes.now)))))) unknown) (here unknown)))
 
 pub count_on-count-requires : goal.count_on-count-requires
 count_on-count-requires c =
     let found-is : c.layout_numbered-found.result ≡ layout_on ((bits_of_bytes (c.args.bytes.now))) = c.layout_numbered-found.ensures ∙ ap (numbered_in layouts) c.number_on.ensures in
     let layout_is : c.layout_or_1-l.result ≡ ((layout_or1 (layout_on ((bits_of_bytes (c.args.bytes.now)))))) = c.layout_or_1-l.ensures ∙ ap layout_or1 (found-is) in
     let sound : Sound c.layout_or_1-l.result = subst Sound (sym (layout_is)) (found-sound (number_on ((bits_of_bytes (c.args.bytes.now))))) in
-    let long : ltb (length (c.args.bytes.now)) 7 ≡ false = c.if-short.false in
+    let long : ltb (length (c.args.bytes.now)) 7 ≡ false = le-ltb _ _ c.if-short.false in
     let fits = (sound).fits in
     let seven = ltb-false (length (c.args.bytes.now)) 7 (long) in
     (fits, omega (arith, fits.count, seven))
@@ -63,7 +63,7 @@ returns-then-not-bytes-card_size c =
     let found-is : c.layout_numbered-found.result ≡ layout_on ((bits_of_bytes (c.args.bytes.now))) = c.layout_numbered-found.ensures ∙ ap (numbered_in layouts) c.number_on.ensures in
     let layout_is : c.layout_or_1-l.result ≡ ((layout_or1 (layout_on ((bits_of_bytes (c.args.bytes.now)))))) = c.layout_or_1-l.ensures ∙ ap layout_or1 (found-is) in
     let known_is : c.is_found-known.result ≡ is_found (layout_on ((bits_of_bytes (c.args.bytes.now)))) = c.is_found-known.ensures ∙ ap is_found (found-is) in
-    let long : ltb (length (c.args.bytes.now)) 7 ≡ false = c.if-short.false in
+    let long : ltb (length (c.args.bytes.now)) 7 ≡ false = le-ltb _ _ c.if-short.false in
     let known : not (is_found (layout_on ((bits_of_bytes (c.args.bytes.now))))) ≡ false = told-not (known_is) (ap not c.if-not-known.false) in
     let count-is : c.count_on-count.result ≡ count_on ((layout_or1 (layout_on ((bits_of_bytes (c.args.bytes.now)))))) ((bits_of_bytes (c.args.bytes.now))) = c.count_on-count.ensures.0 ∙ ap (λ (k : Layout). count_on k ((bits_of_bytes (c.args.bytes.now)))) (layout_is) in
     let size_is : c.card_size.result ≡ card_size ((layout_or1 (layout_on ((bits_of_bytes (c.args.bytes.now)))))) (count_on ((layout_or1 (layout_on ((bits_of_bytes (c.args.bytes.now)))))) ((bits_of_bytes (c.args.bytes.now)))) = c.card_size.ensures ∙ ap₂ card_size (layout_is) (count-is) in
@@ -71,14 +71,14 @@ returns-then-not-bytes-card_size c =
     is_found (layout_on ((bits_of_bytes (c.args.bytes.now)))) && not (eqb (length (c.args.bytes.now)) (card_size ((layout_or1 (layout_on ((bits_of_bytes (c.args.bytes.now)))))) (count_on ((layout_or1 (layout_on ((bits_of_bytes (c.args.bytes.now)))))) ((bits_of_bytes (c.args.bytes.now)))))) ≡ b = λ w0 t. ap (λ (k : Bool). k && not (eqb (length (c.args.bytes.now)) (card_size ((layout_or1 (layout_on ((bits_of_bytes (c.args.bytes.now)))))) (count_on ((layout_or1 (layout_on ((bits_of_bytes (c.args.bytes.now)))))) ((bits_of_bytes (c.args.bytes.now))))))) (not-false (is_found (layout_on ((bits_of_bytes (c.args.bytes.now))))) (known))
     ∙ ap (λ (n : ℕ). not (eqb (length (c.args.bytes.now)) n)) (sym (size_is))
     ∙ t in
-    judged (c.args.bytes.now) c.args.rows (next (long) (here (of_length _.if3.true)))
+    judged (c.args.bytes.now) c.args.rows (next (long) (here (of_length _ (ap not (ne_eqb _ _ c.if-not-bytes-card_size.true)))))
 
 pub is_broken-requires : goal.is_broken-requires
 is_broken-requires c =
     let found-is : c.layout_numbered-found.result ≡ layout_on ((bits_of_bytes (c.args.bytes.now))) = c.layout_numbered-found.ensures ∙ ap (numbered_in layouts) c.number_on.ensures in
     let layout_is : c.layout_or_1-l.result ≡ ((layout_or1 (layout_on ((bits_of_bytes (c.args.bytes.now)))))) = c.layout_or_1-l.ensures ∙ ap layout_or1 (found-is) in
     let sound : Sound c.layout_or_1-l.result = subst Sound (sym (layout_is)) (found-sound (number_on ((bits_of_bytes (c.args.bytes.now))))) in
-    let whole : length (c.args.bytes.now) ≡ card_size c.layout_or_1-l.result c.count_on-count.result = eqb-true _ _ c.if-not-bytes-card_size.false ∙ c.card_size.ensures in
+    let whole : length (c.args.bytes.now) ≡ card_size c.layout_or_1-l.result c.count_on-count.result = c.if-not-bytes-card_size.false ∙ c.card_size.ensures in
     let count = c.count_on-count.ensures in
     ((sound).fits, count.1, count.0, omega (arith, whole))
 
@@ -87,7 +87,7 @@ filler_set-requires c =
     let found-is : c.layout_numbered-found.result ≡ layout_on ((bits_of_bytes (c.args.bytes.now))) = c.layout_numbered-found.ensures ∙ ap (numbered_in layouts) c.number_on.ensures in
     let layout_is : c.layout_or_1-l.result ≡ ((layout_or1 (layout_on ((bits_of_bytes (c.args.bytes.now)))))) = c.layout_or_1-l.ensures ∙ ap layout_or1 (found-is) in
     let sound : Sound c.layout_or_1-l.result = subst Sound (sym (layout_is)) (found-sound (number_on ((bits_of_bytes (c.args.bytes.now))))) in
-    let whole : length (c.args.bytes.now) ≡ card_size c.layout_or_1-l.result c.count_on-count.result = eqb-true _ _ c.if-not-bytes-card_size.false ∙ c.card_size.ensures in
+    let whole : length (c.args.bytes.now) ≡ card_size c.layout_or_1-l.result c.count_on-count.result = c.if-not-bytes-card_size.false ∙ c.card_size.ensures in
     let count = c.count_on-count.ensures in
     ((sound).fits, count.1, count.0, whole)
 
@@ -96,7 +96,7 @@ returns-then-is_broken-filler_set c =
     let found-is : c.layout_numbered-found.result ≡ layout_on ((bits_of_bytes (c.args.bytes.now))) = c.layout_numbered-found.ensures ∙ ap (numbered_in layouts) c.number_on.ensures in
     let layout_is : c.layout_or_1-l.result ≡ ((layout_or1 (layout_on ((bits_of_bytes (c.args.bytes.now)))))) = c.layout_or_1-l.ensures ∙ ap layout_or1 (found-is) in
     let known_is : c.is_found-known.result ≡ is_found (layout_on ((bits_of_bytes (c.args.bytes.now)))) = c.is_found-known.ensures ∙ ap is_found (found-is) in
-    let long : ltb (length (c.args.bytes.now)) 7 ≡ false = c.if-short.false in
+    let long : ltb (length (c.args.bytes.now)) 7 ≡ false = le-ltb _ _ c.if-short.false in
     let known : not (is_found (layout_on ((bits_of_bytes (c.args.bytes.now))))) ≡ false = told-not (known_is) (ap not c.if-not-known.false) in
     let count-is : c.count_on-count.result ≡ count_on ((layout_or1 (layout_on ((bits_of_bytes (c.args.bytes.now)))))) ((bits_of_bytes (c.args.bytes.now))) = c.count_on-count.ensures.0 ∙ ap (λ (k : Layout). count_on k ((bits_of_bytes (c.args.bytes.now)))) (layout_is) in
     let size_is : c.card_size.result ≡ card_size ((layout_or1 (layout_on ((bits_of_bytes (c.args.bytes.now)))))) (count_on ((layout_or1 (layout_on ((bits_of_bytes (c.args.bytes.now)))))) ((bits_of_bytes (c.args.bytes.now)))) = c.card_size.ensures ∙ ap₂ card_size (layout_is) (count-is) in
@@ -107,7 +107,7 @@ returns-then-is_broken-filler_set c =
     let of-rules : (b : Bool) → c.is_broken.result || c.filler_set.result ≡ b → card_broken ((layout_or1 (layout_on ((bits_of_bytes (c.args.bytes.now)))))) (meaning_on ((layout_or1 (layout_on ((bits_of_bytes (c.args.bytes.now)))))) ((bits_of_bytes (c.args.bytes.now)))) || filler_set ((layout_or1 (layout_on ((bits_of_bytes (c.args.bytes.now)))))) ((bits_of_bytes (c.args.bytes.now))) ≡ b = λ w0 t. sym (ap₂ (λ (x y : Bool). x || y) (c.is_broken.ensures ∙ ap (λ (k : Layout). card_broken k (meaning_on k ((bits_of_bytes (c.args.bytes.now))))) (layout_is))
     (c.filler_set.ensures ∙ ap (λ (k : Layout). filler_set k ((bits_of_bytes (c.args.bytes.now)))) (layout_is)))
     ∙ t in
-    let past : (answer : CardJudged) → Reads (Readable ((layout_or1 (layout_on ((bits_of_bytes (c.args.bytes.now))))))) (drop 3 (reading_table (c.args.bytes.now) ((bits_of_bytes (c.args.bytes.now))) ((layout_or1 (layout_on ((bits_of_bytes (c.args.bytes.now)))))) (c.args.rows))) answer → answer ≡ judged_of (c.args.bytes.now) (c.args.rows) = λ w0 r. judged (c.args.bytes.now) (c.args.rows) (next (long) (next (of_length _ (ap not c.if-not-bytes-card_size.false)) (next (known) r))) in
+    let past : (answer : CardJudged) → Reads (Readable ((layout_or1 (layout_on ((bits_of_bytes (c.args.bytes.now))))))) (drop 3 (reading_table (c.args.bytes.now) ((bits_of_bytes (c.args.bytes.now))) ((layout_or1 (layout_on ((bits_of_bytes (c.args.bytes.now)))))) (c.args.rows))) answer → answer ≡ judged_of (c.args.bytes.now) (c.args.rows) = λ w0 r. judged (c.args.bytes.now) (c.args.rows) (next (long) (next (of_length _ (ap not (eq-eqb _ _ c.if-not-bytes-card_size.false))) (next (known) r))) in
     past _ (here (of-rules _ c.if-is_broken-filler_set.true))
 
 pub is_needless-requires : goal.is_needless-requires
@@ -115,7 +115,7 @@ is_needless-requires c =
     let found-is : c.layout_numbered-found.result ≡ layout_on ((bits_of_bytes (c.args.bytes.now))) = c.layout_numbered-found.ensures ∙ ap (numbered_in layouts) c.number_on.ensures in
     let layout_is : c.layout_or_1-l.result ≡ ((layout_or1 (layout_on ((bits_of_bytes (c.args.bytes.now)))))) = c.layout_or_1-l.ensures ∙ ap layout_or1 (found-is) in
     let sound : Sound c.layout_or_1-l.result = subst Sound (sym (layout_is)) (found-sound (number_on ((bits_of_bytes (c.args.bytes.now))))) in
-    let whole : length (c.args.bytes.now) ≡ card_size c.layout_or_1-l.result c.count_on-count.result = eqb-true _ _ c.if-not-bytes-card_size.false ∙ c.card_size.ensures in
+    let whole : length (c.args.bytes.now) ≡ card_size c.layout_or_1-l.result c.count_on-count.result = c.if-not-bytes-card_size.false ∙ c.card_size.ensures in
     let count = c.count_on-count.ensures in
     ((sound).fits, count.1, count.0, omega (arith, whole))
 
@@ -124,7 +124,7 @@ returns-then-is_needless c =
     let found-is : c.layout_numbered-found.result ≡ layout_on ((bits_of_bytes (c.args.bytes.now))) = c.layout_numbered-found.ensures ∙ ap (numbered_in layouts) c.number_on.ensures in
     let layout_is : c.layout_or_1-l.result ≡ ((layout_or1 (layout_on ((bits_of_bytes (c.args.bytes.now)))))) = c.layout_or_1-l.ensures ∙ ap layout_or1 (found-is) in
     let known_is : c.is_found-known.result ≡ is_found (layout_on ((bits_of_bytes (c.args.bytes.now)))) = c.is_found-known.ensures ∙ ap is_found (found-is) in
-    let long : ltb (length (c.args.bytes.now)) 7 ≡ false = c.if-short.false in
+    let long : ltb (length (c.args.bytes.now)) 7 ≡ false = le-ltb _ _ c.if-short.false in
     let known : not (is_found (layout_on ((bits_of_bytes (c.args.bytes.now))))) ≡ false = told-not (known_is) (ap not c.if-not-known.false) in
     let count-is : c.count_on-count.result ≡ count_on ((layout_or1 (layout_on ((bits_of_bytes (c.args.bytes.now)))))) ((bits_of_bytes (c.args.bytes.now))) = c.count_on-count.ensures.0 ∙ ap (λ (k : Layout). count_on k ((bits_of_bytes (c.args.bytes.now)))) (layout_is) in
     let size_is : c.card_size.result ≡ card_size ((layout_or1 (layout_on ((bits_of_bytes (c.args.bytes.now)))))) (count_on ((layout_or1 (layout_on ((bits_of_bytes (c.args.bytes.now)))))) ((bits_of_bytes (c.args.bytes.now)))) = c.card_size.ensures ∙ ap₂ card_size (layout_is) (count-is) in
@@ -135,9 +135,9 @@ returns-then-is_needless c =
     let of-rules : (b : Bool) → c.is_broken.result || c.filler_set.result ≡ b → card_broken ((layout_or1 (layout_on ((bits_of_bytes (c.args.bytes.now)))))) (meaning_on ((layout_or1 (layout_on ((bits_of_bytes (c.args.bytes.now)))))) ((bits_of_bytes (c.args.bytes.now)))) || filler_set ((layout_or1 (layout_on ((bits_of_bytes (c.args.bytes.now)))))) ((bits_of_bytes (c.args.bytes.now))) ≡ b = λ w0 t. sym (ap₂ (λ (x y : Bool). x || y) (c.is_broken.ensures ∙ ap (λ (k : Layout). card_broken k (meaning_on k ((bits_of_bytes (c.args.bytes.now))))) (layout_is))
     (c.filler_set.ensures ∙ ap (λ (k : Layout). filler_set k ((bits_of_bytes (c.args.bytes.now)))) (layout_is)))
     ∙ t in
-    let past : (answer : CardJudged) → Reads (Readable ((layout_or1 (layout_on ((bits_of_bytes (c.args.bytes.now))))))) (drop 3 (reading_table (c.args.bytes.now) ((bits_of_bytes (c.args.bytes.now))) ((layout_or1 (layout_on ((bits_of_bytes (c.args.bytes.now)))))) (c.args.rows))) answer → answer ≡ judged_of (c.args.bytes.now) (c.args.rows) = λ w0 r. judged (c.args.bytes.now) (c.args.rows) (next (long) (next (of_length _ (ap not c.if-not-bytes-card_size.false)) (next (known) r))) in
+    let past : (answer : CardJudged) → Reads (Readable ((layout_or1 (layout_on ((bits_of_bytes (c.args.bytes.now))))))) (drop 3 (reading_table (c.args.bytes.now) ((bits_of_bytes (c.args.bytes.now))) ((layout_or1 (layout_on ((bits_of_bytes (c.args.bytes.now)))))) (c.args.rows))) answer → answer ≡ judged_of (c.args.bytes.now) (c.args.rows) = λ w0 r. judged (c.args.bytes.now) (c.args.rows) (next (long) (next (of_length _ (ap not (eq-eqb _ _ c.if-not-bytes-card_size.false))) (next (known) r))) in
     let of-need : (b : Bool) → c.is_needless.result ≡ b → needless ((layout_or1 (layout_on ((bits_of_bytes (c.args.bytes.now)))))) (meaning_on ((layout_or1 (layout_on ((bits_of_bytes (c.args.bytes.now)))))) ((bits_of_bytes (c.args.bytes.now)))) ≡ b = λ w0 t. told (c.is_needless.ensures ∙ ap (λ (k : Layout). needless k (meaning_on k ((bits_of_bytes (c.args.bytes.now))))) (layout_is)) t in
-    let beyond : (answer : CardJudged) → Reads (Readable ((layout_or1 (layout_on ((bits_of_bytes (c.args.bytes.now))))))) (drop 4 (reading_table (c.args.bytes.now) ((bits_of_bytes (c.args.bytes.now))) ((layout_or1 (layout_on ((bits_of_bytes (c.args.bytes.now)))))) (c.args.rows))) answer → answer ≡ judged_of (c.args.bytes.now) (c.args.rows) = λ w0 r. past _ (next (of-rules _.if4.false) r) in
+    let beyond : (answer : CardJudged) → Reads (Readable ((layout_or1 (layout_on ((bits_of_bytes (c.args.bytes.now))))))) (drop 4 (reading_table (c.args.bytes.now) ((bits_of_bytes (c.args.bytes.now))) ((layout_or1 (layout_on ((bits_of_bytes (c.args.bytes.now)))))) (c.args.rows))) answer → answer ≡ judged_of (c.args.bytes.now) (c.args.rows) = λ w0 r. past _ (next (of-rules _ (ap not (eq-eqb _ _ c.if-not-bytes-card_size.false))) r) in
     beyond _ (here (of-need _ c.if-is_needless.true))
 
 pub returns-then-rows-count : goal.returns-then-rows-count
@@ -145,7 +145,7 @@ returns-then-rows-count c =
     let found-is : c.layout_numbered-found.result ≡ layout_on ((bits_of_bytes (c.args.bytes.now))) = c.layout_numbered-found.ensures ∙ ap (numbered_in layouts) c.number_on.ensures in
     let layout_is : c.layout_or_1-l.result ≡ ((layout_or1 (layout_on ((bits_of_bytes (c.args.bytes.now)))))) = c.layout_or_1-l.ensures ∙ ap layout_or1 (found-is) in
     let known_is : c.is_found-known.result ≡ is_found (layout_on ((bits_of_bytes (c.args.bytes.now)))) = c.is_found-known.ensures ∙ ap is_found (found-is) in
-    let long : ltb (length (c.args.bytes.now)) 7 ≡ false = c.if-short.false in
+    let long : ltb (length (c.args.bytes.now)) 7 ≡ false = le-ltb _ _ c.if-short.false in
     let known : not (is_found (layout_on ((bits_of_bytes (c.args.bytes.now))))) ≡ false = told-not (known_is) (ap not c.if-not-known.false) in
     let count-is : c.count_on-count.result ≡ count_on ((layout_or1 (layout_on ((bits_of_bytes (c.args.bytes.now)))))) ((bits_of_bytes (c.args.bytes.now))) = c.count_on-count.ensures.0 ∙ ap (λ (k : Layout). count_on k ((bits_of_bytes (c.args.bytes.now)))) (layout_is) in
     let size_is : c.card_size.result ≡ card_size ((layout_or1 (layout_on ((bits_of_bytes (c.args.bytes.now)))))) (count_on ((layout_or1 (layout_on ((bits_of_bytes (c.args.bytes.now)))))) ((bits_of_bytes (c.args.bytes.now)))) = c.card_size.ensures ∙ ap₂ card_size (layout_is) (count-is) in
@@ -156,9 +156,9 @@ returns-then-rows-count c =
     let of-rules : (b : Bool) → c.is_broken.result || c.filler_set.result ≡ b → card_broken ((layout_or1 (layout_on ((bits_of_bytes (c.args.bytes.now)))))) (meaning_on ((layout_or1 (layout_on ((bits_of_bytes (c.args.bytes.now)))))) ((bits_of_bytes (c.args.bytes.now)))) || filler_set ((layout_or1 (layout_on ((bits_of_bytes (c.args.bytes.now)))))) ((bits_of_bytes (c.args.bytes.now))) ≡ b = λ w0 t. sym (ap₂ (λ (x y : Bool). x || y) (c.is_broken.ensures ∙ ap (λ (k : Layout). card_broken k (meaning_on k ((bits_of_bytes (c.args.bytes.now))))) (layout_is))
     (c.filler_set.ensures ∙ ap (λ (k : Layout). filler_set k ((bits_of_bytes (c.args.bytes.now)))) (layout_is)))
     ∙ t in
-    let past : (answer : CardJudged) → Reads (Readable ((layout_or1 (layout_on ((bits_of_bytes (c.args.bytes.now))))))) (drop 3 (reading_table (c.args.bytes.now) ((bits_of_bytes (c.args.bytes.now))) ((layout_or1 (layout_on ((bits_of_bytes (c.args.bytes.now)))))) (c.args.rows))) answer → answer ≡ judged_of (c.args.bytes.now) (c.args.rows) = λ w0 r. judged (c.args.bytes.now) (c.args.rows) (next (long) (next (of_length _ (ap not c.if-not-bytes-card_size.false)) (next (known) r))) in
+    let past : (answer : CardJudged) → Reads (Readable ((layout_or1 (layout_on ((bits_of_bytes (c.args.bytes.now))))))) (drop 3 (reading_table (c.args.bytes.now) ((bits_of_bytes (c.args.bytes.now))) ((layout_or1 (layout_on ((bits_of_bytes (c.args.bytes.now)))))) (c.args.rows))) answer → answer ≡ judged_of (c.args.bytes.now) (c.args.rows) = λ w0 r. judged (c.args.bytes.now) (c.args.rows) (next (long) (next (of_length _ (ap not (eq-eqb _ _ c.if-not-bytes-card_size.false))) (next (known) r))) in
     let of-need : (b : Bool) → c.is_needless.result ≡ b → needless ((layout_or1 (layout_on ((bits_of_bytes (c.args.bytes.now)))))) (meaning_on ((layout_or1 (layout_on ((bits_of_bytes (c.args.bytes.now)))))) ((bits_of_bytes (c.args.bytes.now)))) ≡ b = λ w0 t. told (c.is_needless.ensures ∙ ap (λ (k : Layout). needless k (meaning_on k ((bits_of_bytes (c.args.bytes.now))))) (layout_is)) t in
-    let beyond : (answer : CardJudged) → Reads (Readable ((layout_or1 (layout_on ((bits_of_bytes (c.args.bytes.now))))))) (drop 4 (reading_table (c.args.bytes.now) ((bits_of_bytes (c.args.bytes.now))) ((layout_or1 (layout_on ((bits_of_bytes (c.args.bytes.now)))))) (c.args.rows))) answer → answer ≡ judged_of (c.args.bytes.now) (c.args.rows) = λ w0 r. past _ (next (of-rules _.if4.false) r) in
+    let beyond : (answer : CardJudged) → Reads (Readable ((layout_or1 (layout_on ((bits_of_bytes (c.args.bytes.now))))))) (drop 4 (reading_table (c.args.bytes.now) ((bits_of_bytes (c.args.bytes.now))) ((layout_or1 (layout_on ((bits_of_bytes (c.args.bytes.now)))))) (c.args.rows))) answer → answer ≡ judged_of (c.args.bytes.now) (c.args.rows) = λ w0 r. past _ (next (of-rules _ (ap not (eq-eqb _ _ c.if-not-bytes-card_size.false))) r) in
     let counted : (holds : ℕ → Type 0) → holds c.count_on-count.result → holds (count_on ((layout_or1 (layout_on ((bits_of_bytes (c.args.bytes.now)))))) ((bits_of_bytes (c.args.bytes.now)))) = λ holds h. subst holds (count-is) h in
     beyond _ (next (of-need _ c.if-is_needless.false) (here (lt-ltb _ _ (counted (λ (n : ℕ). c.args.rows < n) c.if-rows-count.true))))
 
@@ -167,7 +167,7 @@ returns c =
     let found-is : c.layout_numbered-found.result ≡ layout_on ((bits_of_bytes (c.args.bytes.now))) = c.layout_numbered-found.ensures ∙ ap (numbered_in layouts) c.number_on.ensures in
     let layout_is : c.layout_or_1-l.result ≡ ((layout_or1 (layout_on ((bits_of_bytes (c.args.bytes.now)))))) = c.layout_or_1-l.ensures ∙ ap layout_or1 (found-is) in
     let known_is : c.is_found-known.result ≡ is_found (layout_on ((bits_of_bytes (c.args.bytes.now)))) = c.is_found-known.ensures ∙ ap is_found (found-is) in
-    let long : ltb (length (c.args.bytes.now)) 7 ≡ false = c.if-short.false in
+    let long : ltb (length (c.args.bytes.now)) 7 ≡ false = le-ltb _ _ c.if-short.false in
     let known : not (is_found (layout_on ((bits_of_bytes (c.args.bytes.now))))) ≡ false = told-not (known_is) (ap not c.if-not-known.false) in
     let count-is : c.count_on-count.result ≡ count_on ((layout_or1 (layout_on ((bits_of_bytes (c.args.bytes.now)))))) ((bits_of_bytes (c.args.bytes.now))) = c.count_on-count.ensures.0 ∙ ap (λ (k : Layout). count_on k ((bits_of_bytes (c.args.bytes.now)))) (layout_is) in
     let size_is : c.card_size.result ≡ card_size ((layout_or1 (layout_on ((bits_of_bytes (c.args.bytes.now)))))) (count_on ((layout_or1 (layout_on ((bits_of_bytes (c.args.bytes.now)))))) ((bits_of_bytes (c.args.bytes.now)))) = c.card_size.ensures ∙ ap₂ card_size (layout_is) (count-is) in
@@ -178,9 +178,9 @@ returns c =
     let of-rules : (b : Bool) → c.is_broken.result || c.filler_set.result ≡ b → card_broken ((layout_or1 (layout_on ((bits_of_bytes (c.args.bytes.now)))))) (meaning_on ((layout_or1 (layout_on ((bits_of_bytes (c.args.bytes.now)))))) ((bits_of_bytes (c.args.bytes.now)))) || filler_set ((layout_or1 (layout_on ((bits_of_bytes (c.args.bytes.now)))))) ((bits_of_bytes (c.args.bytes.now))) ≡ b = λ w0 t. sym (ap₂ (λ (x y : Bool). x || y) (c.is_broken.ensures ∙ ap (λ (k : Layout). card_broken k (meaning_on k ((bits_of_bytes (c.args.bytes.now))))) (layout_is))
     (c.filler_set.ensures ∙ ap (λ (k : Layout). filler_set k ((bits_of_bytes (c.args.bytes.now)))) (layout_is)))
     ∙ t in
-    let past : (answer : CardJudged) → Reads (Readable ((layout_or1 (layout_on ((bits_of_bytes (c.args.bytes.now))))))) (drop 3 (reading_table (c.args.bytes.now) ((bits_of_bytes (c.args.bytes.now))) ((layout_or1 (layout_on ((bits_of_bytes (c.args.bytes.now)))))) (c.args.rows))) answer → answer ≡ judged_of (c.args.bytes.now) (c.args.rows) = λ w0 r. judged (c.args.bytes.now) (c.args.rows) (next (long) (next (of_length _ (ap not c.if-not-bytes-card_size.false)) (next (known) r))) in
+    let past : (answer : CardJudged) → Reads (Readable ((layout_or1 (layout_on ((bits_of_bytes (c.args.bytes.now))))))) (drop 3 (reading_table (c.args.bytes.now) ((bits_of_bytes (c.args.bytes.now))) ((layout_or1 (layout_on ((bits_of_bytes (c.args.bytes.now)))))) (c.args.rows))) answer → answer ≡ judged_of (c.args.bytes.now) (c.args.rows) = λ w0 r. judged (c.args.bytes.now) (c.args.rows) (next (long) (next (of_length _ (ap not (eq-eqb _ _ c.if-not-bytes-card_size.false))) (next (known) r))) in
     let of-need : (b : Bool) → c.is_needless.result ≡ b → needless ((layout_or1 (layout_on ((bits_of_bytes (c.args.bytes.now)))))) (meaning_on ((layout_or1 (layout_on ((bits_of_bytes (c.args.bytes.now)))))) ((bits_of_bytes (c.args.bytes.now)))) ≡ b = λ w0 t. told (c.is_needless.ensures ∙ ap (λ (k : Layout). needless k (meaning_on k ((bits_of_bytes (c.args.bytes.now))))) (layout_is)) t in
-    let beyond : (answer : CardJudged) → Reads (Readable ((layout_or1 (layout_on ((bits_of_bytes (c.args.bytes.now))))))) (drop 4 (reading_table (c.args.bytes.now) ((bits_of_bytes (c.args.bytes.now))) ((layout_or1 (layout_on ((bits_of_bytes (c.args.bytes.now)))))) (c.args.rows))) answer → answer ≡ judged_of (c.args.bytes.now) (c.args.rows) = λ w0 r. past _ (next (of-rules _.if4.false) r) in
+    let beyond : (answer : CardJudged) → Reads (Readable ((layout_or1 (layout_on ((bits_of_bytes (c.args.bytes.now))))))) (drop 4 (reading_table (c.args.bytes.now) ((bits_of_bytes (c.args.bytes.now))) ((layout_or1 (layout_on ((bits_of_bytes (c.args.bytes.now)))))) (c.args.rows))) answer → answer ≡ judged_of (c.args.bytes.now) (c.args.rows) = λ w0 r. past _ (next (of-rules _ (ap not (eq-eqb _ _ c.if-not-bytes-card_size.false))) r) in
     let counted : (holds : ℕ → Type 0) → holds c.count_on-count.result → holds (count_on ((layout_or1 (layout_on ((bits_of_bytes (c.args.bytes.now)))))) ((bits_of_bytes (c.args.bytes.now)))) = λ holds h. subst holds (count-is) h in
     ap Readable (layout_is)
     ∙ beyond _ (next (of-need _ c.if-is_needless.false) (next (le-ltb _ _ (counted (λ (n : ℕ). n ≤ c.args.rows) c.if-rows-count.false)) end))

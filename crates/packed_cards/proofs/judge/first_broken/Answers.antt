@@ -1,0 +1,20 @@
+-- The loop's invariant: the search goes on from segment i.
+use Prim.Native.Nat.{ℕ, ◌-◌}
+use lib.ListN.{length}
+use borrow.Author.Rules.{rules}
+use Rattle.card.proofs.Judged.{Judging, judging-start, judging-more, judging-out, judging-end}
+use Rattle.card.specs.declared.layout.Segment.{Segment}
+use Rattle.card_form.specs.Rows.{row_at}
+use Rattle.packed_cards.proofs.judge.first_broken.Goals as goal
+
+pub loop-i-init : goal.loop-i-init
+loop-i-init c = judging-start c.args.l ((row_at c.args.ends.now c.args.keys.now c.args.confidences.now)) ((length c.args.ends.now))
+
+pub loop-i-preserved : goal.loop-i-preserved
+loop-i-preserved c = judging-more c.args.l ((row_at c.args.ends.now c.args.keys.now c.args.confidences.now)) ((length c.args.ends.now)) c.loop-i.i c.loop-i.invariant c.if-i-count.false c.row_at-s.ensures c.segment_broken.ensures c.if-segment_broken.false
+
+pub returns-then-i-count : goal.returns-then-i-count
+returns-then-i-count c = judging-end c.args.l ((row_at c.args.ends.now c.args.keys.now c.args.confidences.now)) ((length c.args.ends.now)) c.loop-i.invariant c.if-i-count.true
+
+pub returns-then-segment_broken : goal.returns-then-segment_broken
+returns-then-segment_broken c = judging-out c.args.l ((row_at c.args.ends.now c.args.keys.now c.args.confidences.now)) ((length c.args.ends.now)) c.loop-i.i c.loop-i.invariant c.if-i-count.false c.row_at-s.ensures c.segment_broken.ensures c.if-segment_broken.true

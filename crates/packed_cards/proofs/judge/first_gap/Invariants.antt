@@ -1,0 +1,20 @@
+-- The loop's invariant: the search goes on from i, and `previous` is where segment i has to start.
+use mathlib.Core.Path.{◌≡◌, refl, sym, ap, ◌∙◌}
+use mathlib.Core.Bool.{not}
+use Prim.Native.Nat.{ℕ, ◌-◌, ◌≤◌}
+use native.Mathlib.Numerals.{add-one}
+use native.Mathlib.Omega.{arith}
+use lib.Dec.{eqb}
+use lib.ListN.{length, get_or}
+use borrow.Author.Rules.{rules}
+use Rattle.laws.specs.First.{first}
+use Rattle.laws.proofs.First.{first_start, first-again, first_out, first-end}
+use Rattle.card.specs.Rules.{before}
+use Rattle.packed_cards.specs.Packed.{packed_gap_at, first_packed_gap}
+use Rattle.packed_cards.proofs.judge.first_gap.Given as goal
+
+abbrev pub invariant-loop-i : goal.invariant-loop-i
+invariant-loop-i l = (l.i ≤ l.count) × (first (packed_gap_at l.starts l.ends) (l.count - l.i) l.i ≡ first_packed_gap l.starts l.ends) × (l.previous ≡ before 0 (λ (k : ℕ). get_or l.ends k 0) l.i)
+
+abbrev pub decreases-loop-i : goal.decreases-loop-i
+decreases-loop-i l = l.count - l.i

@@ -1,0 +1,17 @@
+-- A record a turn; no more differ than were read.
+use borrow.Author.Rules.{rules}
+use Rattle.replayed_analyses.proofs.Calls.{record-there}
+use mathlib.Core.Path.{◌≡◌, ap, ◌∙◌}
+use native.Mathlib.Omega.{arith}
+use Prim.Native.Nat.{ℕ, ◌≤◌, ◌-◌}
+use Rattle.laws.specs.Turns.{turns}
+use Rattle.laws.proofs.Table.{told-not}
+use Rattle.laws.proofs.Turns.{turns-start, turns-again, turns-end}
+use Rattle.replayed_analyses.specs.Analyses.{record_turn, differing}
+use Rattle.replayed_analyses.proofs.analyses.count_differing_analyses.Given as goal
+
+abbrev pub invariant-loop-n : goal.invariant-loop-n
+invariant-loop-n l = (l.n ≤ l.count) × (l.differ ≤ l.n) × (turns (record_turn l.bytes) (l.count - l.n) l.n l.differ ≡ turns (record_turn l.bytes) l.count 0 0)
+
+abbrev pub decreases-loop-n : goal.decreases-loop-n
+decreases-loop-n l = l.count - l.n
