@@ -20,7 +20,7 @@ pub enum CardJudged {
 }
 
 // The first of `count` segments that breaks a rule of the layout `rules`, or their count.
-fn first_broken(bytes: &[u8], l: Layout, rules: Layout, count: usize) -> usize
+pub fn first_broken(bytes: &[u8], l: Layout, rules: Layout, count: usize) -> usize
     requires { LayoutFits l × (count < 2 ^ 32) × (segment_place l count ≤ length bytes.now * 8) }
     ensures { result ≡ first_broken rules (list (segment_on l (bits_of_bytes bytes.now)) count) }
 {

@@ -84,6 +84,7 @@ module _ (card : List ℕ) (l : Layout) (fits : length card ≤ place_size) (rea
       both : (zero read behind : Bool) → read ≡ true → T behind → not zero && not (read && behind) ≡ false
       both true read behind e t = refl
       both false true true e t = refl
+      both false true false e t = elim t [ ]
       both false false behind e t = absurd (let z : ◌≡◌ {A = ℕ} 0 1 = cc in omega arith)
 
 -- a free place is not spoilt

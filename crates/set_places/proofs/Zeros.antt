@@ -1,6 +1,6 @@
 -- What a place holds, byte by byte: a card's bytes, and zeros behind them.
 use mathlib.Core.Path.{◌≡◌, refl, sym, ap, ap₂, subst, ◌∙◌}
-use mathlib.Core.Bool.{Bool, true, ◌&&◌}
+use mathlib.Core.Bool.{false, Bool, true, ◌&&◌}
 use mathlib.Core.List.{List, [], ◌∷◌, ◌++◌}
 use Prim.Native.Nat.{ℕ, zero, suc, ◌+◌, ◌-◌, ◌≤◌}
 use native.Mathlib.Nat.{not-suc-le-zero, le_of_suc-le-suc}
@@ -20,6 +20,7 @@ use Rattle.laws.proofs.Same.{same-is, same_of}
 -- a test that holds
 pub passed : (b : Bool) → T b → b ≡ true
 passed true t = refl
+passed false t = elim t [ ]
 
 -- bytes that are all zeros, and back
 pub zeros-are : (bytes : List ℕ) → T (all_zero bytes) → bytes ≡ replicate (length bytes) 0

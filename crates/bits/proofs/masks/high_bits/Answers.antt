@@ -2,7 +2,6 @@
 use mathlib.Core.Path.{sym}
 use native.Mathlib.Nat.{div-eq_of_lt, lt_of_lt_of_le}
 use lib.Pow.{pow_mono}
-use borrow.Author.Rules.{rules}
 use Rattle.bits.proofs.masks.high_bits.Goals as goal
 
 pub returns-else-width-lt64 : goal.returns-else-width-lt64

@@ -3,7 +3,6 @@ use mathlib.Core.Path.{ap, ◌∙◌}
 use Prim.Native.Nat.{ℕ}
 use native.Mathlib.Nat.{mod-eq_of_lt}
 use lib.Bits.{bit_or, or_shifted}
-use borrow.Author.Rules.{rules}
 use Rattle.bits.proofs.masks.joined.Goals as goal
 
 pub returns : goal.returns

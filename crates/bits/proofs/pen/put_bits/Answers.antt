@@ -1,15 +1,13 @@
 -- `card::put_bits` meets its contract. Each turn of the loop moves eight of the waiting bits into a byte; what is put_so_far stays the same.
 use mathlib.Core.Path.{◌≡◌, refl, sym, ap, ◌∙◌, subst}
-use mathlib.Core.List.{List, ◌++◌, append_assoc}
-use Prim.Native.Nat.{ℕ, ◌+◌, ◌-◌, ◌*◌, ◌/◌, ◌^◌, ◌≤◌, ◌<◌}
+use mathlib.Core.List.{append_assoc}
+use Prim.Native.Nat.{ℕ, ◌+◌, ◌-◌, ◌/◌, ◌^◌, ◌<◌}
 use native.Mathlib.Nat.{mod-lt, lt_of_lt_of_le}
 use native.Mathlib.Omega.{arith}
-use lib.ListN.{length, take, drop, set, length-set}
+use lib.ListN.{drop, set, length-set}
 use lib.Seq.{drop-set-lt, drop-drop}
 use lib.Arith.{digits_lt}
 use lib.Pow.{pow_pos, pow_mono, pow-add, shl_lt, shr_lt}
-use borrow.Author.Rules.{rules}
-use Rattle.bits.specs.Bits.{bits_of, bits_of_bytes}
 use Rattle.bits.proofs.Digits.{length-bits, bits-join, drained}
 use Rattle.bits.proofs.pen.put_bits.Invariants.{stands}
 use Rattle.bits.proofs.pen.put_bits.Goals as goal

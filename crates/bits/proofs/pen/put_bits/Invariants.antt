@@ -1,16 +1,9 @@
 -- `card::put_bits` meets its contract. Each turn of the loop moves eight of the waiting bits into a byte; what is put_so_far stays the same.
-use mathlib.Core.Path.{◌≡◌, refl, sym, ap, ◌∙◌, subst}
-use mathlib.Core.List.{List, ◌++◌, append_assoc}
-use Prim.Native.Nat.{ℕ, ◌+◌, ◌-◌, ◌*◌, ◌/◌, ◌^◌, ◌≤◌, ◌<◌}
-use native.Mathlib.Nat.{mod-lt, lt_of_lt_of_le}
-use native.Mathlib.Omega.{arith}
-use lib.ListN.{length, take, drop, set, length-set}
-use lib.Seq.{drop-set-lt, drop-drop}
-use lib.Arith.{digits_lt}
-use lib.Pow.{pow_pos, pow_mono, pow-add, shl_lt, shr_lt}
-use borrow.Author.Rules.{rules}
+use mathlib.Core.Path.{◌≡◌}
+use mathlib.Core.List.{List, ◌++◌}
+use Prim.Native.Nat.{ℕ, ◌+◌, ◌*◌, ◌^◌, ◌≤◌, ◌<◌}
+use lib.ListN.{length, take, drop}
 use Rattle.bits.specs.Bits.{bits_of, bits_of_bytes}
-use Rattle.bits.proofs.Digits.{length-bits, bits-join, drained}
 use Rattle.bits.proofs.pen.put_bits.Given as goal
 
 -- what stands put_so_far, as the loop's variables have it

@@ -1,5 +1,4 @@
 -- A shift drops the bits behind the field, a mask those before it.
-use borrow.Author.Rules.{rules}
 use Rattle.bits.proofs.reader.field.Goals as goal
 
 pub returns : goal.returns

@@ -1,12 +1,11 @@
 -- The bytes that hold the field are read as one number: eight of them, or no more than it needs.
 use mathlib.Core.Path.{sym, subst, ◌∙◌}
 use mathlib.Core.Bool.{◌&&◌}
-use Prim.Native.Nat.{ℕ, ◌+◌, ◌-◌, ◌*◌, ◌/◌, ◌%◌, ◌≤◌, ◌<◌}
+use Prim.Native.Nat.{◌+◌, ◌-◌, ◌*◌, ◌/◌, ◌%◌, ◌≤◌, ◌<◌}
 use native.Mathlib.Omega.{arith}
 use lib.Dec.{T, leb, ltb, leb→le, ltb→lt}
 use lib.Ieee.Fits.{and_l, and_r}
 use lib.ListN.{length}
-use borrow.Author.Rules.{rules}
 use Rattle.bits.proofs.Fields.{window-field}
 use Rattle.bits.proofs.reader.get_bits.Goals as goal
 

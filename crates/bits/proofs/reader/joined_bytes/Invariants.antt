@@ -1,11 +1,7 @@
 -- The loop's invariant: `seen` has the bits of the first k bytes.
-use mathlib.Core.Path.{◌≡◌, refl, subst}
-use Prim.Native.Nat.{ℕ, ◌+◌, ◌-◌, ◌*◌, ◌≤◌}
-use native.Mathlib.Omega.{arith}
-use lib.Dec.{lit<}
-use Rattle.bits.specs.Bits.{bits_of, bits_of_bytes, HasBits}
-use Rattle.bits.proofs.Digits.{shift_fits}
-use Rattle.bits.proofs.Fields.{window, window_more}
+use Prim.Native.Nat.{◌-◌, ◌*◌, ◌≤◌}
+use Rattle.bits.specs.Bits.{HasBits}
+use Rattle.bits.proofs.Fields.{window}
 use Rattle.bits.proofs.reader.joined_bytes.Given as goal
 
 abbrev pub invariant-loop-k : goal.invariant-loop-k

@@ -137,7 +137,7 @@ returns-then-is_needless c =
     ∙ t in
     let past : (answer : CardJudged) → Reads (Readable ((layout_or1 (layout_on ((bits_of_bytes (c.args.bytes.now))))))) (drop 3 (reading_table (c.args.bytes.now) ((bits_of_bytes (c.args.bytes.now))) ((layout_or1 (layout_on ((bits_of_bytes (c.args.bytes.now)))))) (c.args.rows))) answer → answer ≡ judged_of (c.args.bytes.now) (c.args.rows) = λ w0 r. judged (c.args.bytes.now) (c.args.rows) (next (long) (next (of_length _ (ap not (eq-eqb _ _ c.if-not-bytes-card_size.false))) (next (known) r))) in
     let of-need : (b : Bool) → c.is_needless.result ≡ b → needless ((layout_or1 (layout_on ((bits_of_bytes (c.args.bytes.now)))))) (meaning_on ((layout_or1 (layout_on ((bits_of_bytes (c.args.bytes.now)))))) ((bits_of_bytes (c.args.bytes.now)))) ≡ b = λ w0 t. told (c.is_needless.ensures ∙ ap (λ (k : Layout). needless k (meaning_on k ((bits_of_bytes (c.args.bytes.now))))) (layout_is)) t in
-    let beyond : (answer : CardJudged) → Reads (Readable ((layout_or1 (layout_on ((bits_of_bytes (c.args.bytes.now))))))) (drop 4 (reading_table (c.args.bytes.now) ((bits_of_bytes (c.args.bytes.now))) ((layout_or1 (layout_on ((bits_of_bytes (c.args.bytes.now)))))) (c.args.rows))) answer → answer ≡ judged_of (c.args.bytes.now) (c.args.rows) = λ w0 r. past _ (next (of-rules _ (ap not (eq-eqb _ _ c.if-not-bytes-card_size.false))) r) in
+    let beyond : (answer : CardJudged) → Reads (Readable ((layout_or1 (layout_on ((bits_of_bytes (c.args.bytes.now))))))) (drop 4 (reading_table (c.args.bytes.now) ((bits_of_bytes (c.args.bytes.now))) ((layout_or1 (layout_on ((bits_of_bytes (c.args.bytes.now)))))) (c.args.rows))) answer → answer ≡ judged_of (c.args.bytes.now) (c.args.rows) = λ w0 r. past _ (next (of-rules _ c.if-is_broken-filler_set.false) r) in
     beyond _ (here (of-need _ c.if-is_needless.true))
 
 pub returns-then-rows-count : goal.returns-then-rows-count
@@ -158,7 +158,7 @@ returns-then-rows-count c =
     ∙ t in
     let past : (answer : CardJudged) → Reads (Readable ((layout_or1 (layout_on ((bits_of_bytes (c.args.bytes.now))))))) (drop 3 (reading_table (c.args.bytes.now) ((bits_of_bytes (c.args.bytes.now))) ((layout_or1 (layout_on ((bits_of_bytes (c.args.bytes.now)))))) (c.args.rows))) answer → answer ≡ judged_of (c.args.bytes.now) (c.args.rows) = λ w0 r. judged (c.args.bytes.now) (c.args.rows) (next (long) (next (of_length _ (ap not (eq-eqb _ _ c.if-not-bytes-card_size.false))) (next (known) r))) in
     let of-need : (b : Bool) → c.is_needless.result ≡ b → needless ((layout_or1 (layout_on ((bits_of_bytes (c.args.bytes.now)))))) (meaning_on ((layout_or1 (layout_on ((bits_of_bytes (c.args.bytes.now)))))) ((bits_of_bytes (c.args.bytes.now)))) ≡ b = λ w0 t. told (c.is_needless.ensures ∙ ap (λ (k : Layout). needless k (meaning_on k ((bits_of_bytes (c.args.bytes.now))))) (layout_is)) t in
-    let beyond : (answer : CardJudged) → Reads (Readable ((layout_or1 (layout_on ((bits_of_bytes (c.args.bytes.now))))))) (drop 4 (reading_table (c.args.bytes.now) ((bits_of_bytes (c.args.bytes.now))) ((layout_or1 (layout_on ((bits_of_bytes (c.args.bytes.now)))))) (c.args.rows))) answer → answer ≡ judged_of (c.args.bytes.now) (c.args.rows) = λ w0 r. past _ (next (of-rules _ (ap not (eq-eqb _ _ c.if-not-bytes-card_size.false))) r) in
+    let beyond : (answer : CardJudged) → Reads (Readable ((layout_or1 (layout_on ((bits_of_bytes (c.args.bytes.now))))))) (drop 4 (reading_table (c.args.bytes.now) ((bits_of_bytes (c.args.bytes.now))) ((layout_or1 (layout_on ((bits_of_bytes (c.args.bytes.now)))))) (c.args.rows))) answer → answer ≡ judged_of (c.args.bytes.now) (c.args.rows) = λ w0 r. past _ (next (of-rules _ c.if-is_broken-filler_set.false) r) in
     let counted : (holds : ℕ → Type 0) → holds c.count_on-count.result → holds (count_on ((layout_or1 (layout_on ((bits_of_bytes (c.args.bytes.now)))))) ((bits_of_bytes (c.args.bytes.now)))) = λ holds h. subst holds (count-is) h in
     beyond _ (next (of-need _ c.if-is_needless.false) (here (lt-ltb _ _ (counted (λ (n : ℕ). c.args.rows < n) c.if-rows-count.true))))
 
@@ -180,7 +180,7 @@ returns c =
     ∙ t in
     let past : (answer : CardJudged) → Reads (Readable ((layout_or1 (layout_on ((bits_of_bytes (c.args.bytes.now))))))) (drop 3 (reading_table (c.args.bytes.now) ((bits_of_bytes (c.args.bytes.now))) ((layout_or1 (layout_on ((bits_of_bytes (c.args.bytes.now)))))) (c.args.rows))) answer → answer ≡ judged_of (c.args.bytes.now) (c.args.rows) = λ w0 r. judged (c.args.bytes.now) (c.args.rows) (next (long) (next (of_length _ (ap not (eq-eqb _ _ c.if-not-bytes-card_size.false))) (next (known) r))) in
     let of-need : (b : Bool) → c.is_needless.result ≡ b → needless ((layout_or1 (layout_on ((bits_of_bytes (c.args.bytes.now)))))) (meaning_on ((layout_or1 (layout_on ((bits_of_bytes (c.args.bytes.now)))))) ((bits_of_bytes (c.args.bytes.now)))) ≡ b = λ w0 t. told (c.is_needless.ensures ∙ ap (λ (k : Layout). needless k (meaning_on k ((bits_of_bytes (c.args.bytes.now))))) (layout_is)) t in
-    let beyond : (answer : CardJudged) → Reads (Readable ((layout_or1 (layout_on ((bits_of_bytes (c.args.bytes.now))))))) (drop 4 (reading_table (c.args.bytes.now) ((bits_of_bytes (c.args.bytes.now))) ((layout_or1 (layout_on ((bits_of_bytes (c.args.bytes.now)))))) (c.args.rows))) answer → answer ≡ judged_of (c.args.bytes.now) (c.args.rows) = λ w0 r. past _ (next (of-rules _ (ap not (eq-eqb _ _ c.if-not-bytes-card_size.false))) r) in
+    let beyond : (answer : CardJudged) → Reads (Readable ((layout_or1 (layout_on ((bits_of_bytes (c.args.bytes.now))))))) (drop 4 (reading_table (c.args.bytes.now) ((bits_of_bytes (c.args.bytes.now))) ((layout_or1 (layout_on ((bits_of_bytes (c.args.bytes.now)))))) (c.args.rows))) answer → answer ≡ judged_of (c.args.bytes.now) (c.args.rows) = λ w0 r. past _ (next (of-rules _ c.if-is_broken-filler_set.false) r) in
     let counted : (holds : ℕ → Type 0) → holds c.count_on-count.result → holds (count_on ((layout_or1 (layout_on ((bits_of_bytes (c.args.bytes.now)))))) ((bits_of_bytes (c.args.bytes.now)))) = λ holds h. subst holds (count-is) h in
     ap Readable (layout_is)
     ∙ beyond _ (next (of-need _ c.if-is_needless.false) (next (le-ltb _ _ (counted (λ (n : ℕ). n ≤ c.args.rows) c.if-rows-count.false)) end))

@@ -1,5 +1,4 @@
 -- Each pair of modes is its clause of the definition.
-use borrow.Author.Rules.{rules}
 use native.Mathlib.Omega.{arith}
 use Rattle.keys.proofs.Placed.{tonic-below}
 use Rattle.keys.proofs.numbers.are_relative_keys.Goals as goal

@@ -1,5 +1,4 @@
 -- The code's table of tonics is the definition's, and the test gives the mode.
-use borrow.Author.Rules.{rules}
 use borrow.Author.Tests.{lt-ltb, le-ltb}
 use Rattle.keys.specs.Numbers.{tonics}
 use Rattle.keys.proofs.numbers.key_from_index.Goals as goal

@@ -1,5 +1,4 @@
 -- Each mode's arm is its clause of the definition, and a tonic's number is below 12.
-use borrow.Author.Rules.{rules}
 use native.Mathlib.Omega.{arith}
 use Rattle.keys.proofs.Placed.{tonic-below}
 use Rattle.keys.proofs.numbers.key_number.Goals as goal

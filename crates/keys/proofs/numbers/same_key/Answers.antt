@@ -1,5 +1,4 @@
 -- The two numbers compared are the definition's.
-use borrow.Author.Rules.{rules}
 use Rattle.keys.proofs.numbers.same_key.Goals as goal
 
 pub returns : goal.returns

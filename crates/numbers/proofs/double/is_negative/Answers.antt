@@ -1,5 +1,4 @@
 -- The sign is the highest bit of the pattern, and the NaN has none.
-use borrow.Author.Rules.{rules}
 use mathlib.Core.Path.{sym, subst}
 use lib.Dec.{T}
 use lib.Ieee.{binary64}

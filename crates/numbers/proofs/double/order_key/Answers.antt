@@ -1,5 +1,4 @@
 -- Each return is the key of one kind of value.
-use borrow.Author.Rules.{rules}
 use mathlib.Core.Path.{sym, subst}
 use native.Mathlib.Omega.{arith}
 use lib.Dec.{T}

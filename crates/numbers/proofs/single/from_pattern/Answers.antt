@@ -1,5 +1,4 @@
 -- A pattern above the infinity's is a NaN's, and any other reads as it stands.
-use borrow.Author.Rules.{rules}
 use lib.Ieee.{binary32}
 use Rattle.laws.proofs.Patterns.{pattern_number}
 use Rattle.numbers.proofs.Tests.{nan_pattern}

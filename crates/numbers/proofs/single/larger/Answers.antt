@@ -1,5 +1,4 @@
 -- The tests joined are those of the definition.
-use borrow.Author.Rules.{rules}
 use mathlib.Core.Bool.{true, false}
 use Rattle.numbers.proofs.Tests.{larger-is}
 use Rattle.numbers.proofs.single.larger.Goals as goal

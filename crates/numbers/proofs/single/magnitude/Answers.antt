@@ -1,5 +1,4 @@
 -- Each return is the magnitude by the sign.
-use borrow.Author.Rules.{rules}
 use Rattle.laws.proofs.Signs.{magnitude-of-negative, magnitude-of-positive}
 use Rattle.laws.proofs.Table.{told}
 use Rattle.numbers.proofs.single.magnitude.Goals as goal

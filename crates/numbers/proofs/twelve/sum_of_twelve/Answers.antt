@@ -1,12 +1,7 @@
 -- A value a turn, from -0.
-use borrow.Author.Rules.{rules}
-use mathlib.Core.Path.{◌≡◌, refl}
+use mathlib.Core.Path.{refl}
 use native.Mathlib.Omega.{arith}
-use Prim.Native.Nat.{ℕ, ◌≤◌, ◌-◌}
-use lib.ListN.{get_or}
-use lib.Ieee.{Float, nan, binary32, add, of_bits, neg}
-use Rattle.laws.specs.Turns.{turns}
-use Rattle.laws.specs.Values.{minus_zero}
+use lib.Ieee.{of_bits, neg}
 use Rattle.laws.proofs.Turns.{turns-start, turns-again, turns-end}
 use Rattle.numbers.specs.Sum.{sum_of}
 use Rattle.numbers.proofs.twelve.sum_of_twelve.Goals as goal

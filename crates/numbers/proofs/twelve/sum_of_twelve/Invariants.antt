@@ -1,14 +1,10 @@
 -- A value a turn, from -0.
-use borrow.Author.Rules.{rules}
-use mathlib.Core.Path.{◌≡◌, refl}
-use native.Mathlib.Omega.{arith}
+use mathlib.Core.Path.{◌≡◌}
 use Prim.Native.Nat.{ℕ, ◌≤◌, ◌-◌}
 use lib.ListN.{get_or}
-use lib.Ieee.{Float, nan, binary32, add, of_bits, neg}
+use lib.Ieee.{Float, nan, binary32, add}
 use Rattle.laws.specs.Turns.{turns}
 use Rattle.laws.specs.Values.{minus_zero}
-use Rattle.laws.proofs.Turns.{turns-start, turns-again, turns-end}
-use Rattle.numbers.specs.Sum.{sum_of}
 use Rattle.numbers.proofs.twelve.sum_of_twelve.Given as goal
 
 abbrev pub invariant-loop-i : goal.invariant-loop-i

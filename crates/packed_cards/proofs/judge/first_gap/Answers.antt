@@ -7,6 +7,7 @@ use native.Mathlib.Omega.{arith}
 use lib.Dec.{eqb}
 use lib.ListN.{length, get_or}
 use borrow.Author.Rules.{rules}
+use borrow.Author.Tests.{eq-eqb, ne_eqb}
 use Rattle.laws.specs.First.{first}
 use Rattle.laws.proofs.First.{first_start, first-again, first_out, first-end}
 use Rattle.card.specs.Rules.{before}
@@ -20,7 +21,7 @@ pub loop-i-preserved : goal.loop-i-preserved
 loop-i-preserved c =
     let args = c.args in
     let i = c.loop-i.i in
-    let good = ap (λ (x : ℕ). not (eqb (get_or args.starts.now i 0) x)) (sym c.loop-i.invariant.2) ∙ (ap not c.if-not-starts-i.false) in (
+    let good = ap (λ (x : ℕ). not (eqb (get_or args.starts.now i 0) x)) (sym c.loop-i.invariant.2) ∙ ap not (eq-eqb _ _ c.if-not-starts-i.false) in (
       omega arith,
       first-again (packed_gap_at args.starts.now args.ends.now) (length args.ends.now) i c.loop-i.invariant.1 (omega arith) good,
       ap (before 0 (λ (k : ℕ). get_or args.ends.now k 0)) (sym (add-one i)),
@@ -37,5 +38,5 @@ pub returns-then-not-starts-i : goal.returns-then-not-starts-i
 returns-then-not-starts-i c =
     let args = c.args in
     let i = c.loop-i.i in
-    let gap = ap (λ (x : ℕ). not (eqb (get_or args.starts.now i 0) x)) (sym c.loop-i.invariant.2) ∙ (ap not c.if-not-starts-i.true) in
+    let gap = ap (λ (x : ℕ). not (eqb (get_or args.starts.now i 0) x)) (sym c.loop-i.invariant.2) ∙ ap not (ne_eqb _ _ c.if-not-starts-i.true) in
     first_out (packed_gap_at args.starts.now args.ends.now) (length args.ends.now) i c.loop-i.invariant.1 (omega arith) gap

@@ -1,0 +1,20 @@
+-- A number a turn, from the front.
+use borrow.Author.Rules.{rules}
+use mathlib.Core.Path.{◌≡◌, sym, subst}
+use mathlib.Core.List.{List}
+use Prim.Native.Nat.{ℕ, ◌+◌, ◌-◌, ◌<◌, ◌≤◌}
+use native.Mathlib.Omega.{arith}
+use lib.ListN.{length, get_or, set}
+use Rattle.laws.proofs.Front.{Filled, filled-start, filled_more, filled-rest, filled-whole}
+use Rattle.set_totals.specs.inside.Numbers.{summary_numbers, less}
+use Rattle.set_totals.proofs.one_card.subtract.Given as goal
+
+-- what is left of number k
+abbrev pub left : List ℕ → List ℕ → ℕ → ℕ
+left others numbers k = get_or numbers k 0 - get_or others k 0
+
+abbrev pub invariant-loop-k : goal.invariant-loop-k
+invariant-loop-k l = (l.k ≤ summary_numbers) × Filled (left l.others l.initial.numbers) l.initial.numbers l.numbers l.k
+
+abbrev pub decreases-loop-k : goal.decreases-loop-k
+decreases-loop-k l = summary_numbers - l.k
