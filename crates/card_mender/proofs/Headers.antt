@@ -1,11 +1,11 @@
 -- A header that breaks no rule beside the fewest segments breaks none beside more; and without a broken alternate it breaks none.
 use mathlib.Core.Path.{◌≡◌, refl, sym, ap, ◌∙◌}
-use mathlib.Core.Bool.{Bool, true, false, not, ◌&&◌, cond}
+use mathlib.Core.Bool.{Bool, true, false, cond}
 use Prim.Native.Nat.{ℕ, ◌≤◌, ◌<◌}
 use native.Mathlib.Omega.{arith}
 use lib.Dec.{eqb, ltb}
-use borrow.Author.Tests.{le-ltb, eq-eqb, ne_eqb, eqb-true, eqb-false}
-use Rattle.card.specs.Rules.{no_key, header_broken}
+use borrow.Author.Tests.{le-ltb, ne_eqb}
+use Rattle.card.specs.Rules.{header_broken}
 use Rattle.card.specs.declared.layout.Layout.{Layout}
 use Rattle.card.specs.declared.layout.Header.{Header}
 use Rattle.card_mender.specs.Mending.{has_no_key, fewest, without_alternate, key_broken, alternate_goes, mended_header}

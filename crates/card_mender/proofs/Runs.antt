@@ -1,17 +1,13 @@
 -- Good segments from the front: those of a run break no rule by themselves, and every such run is within the good one.
 use mathlib.Core.Path.{◌≡◌, refl, sym, ap, ◌∙◌}
 use mathlib.Core.Bool.{Bool, true, false, ◌||◌, cond}
-use mathlib.Core.List.{List}
-use mathlib.Core.Logic.{inl, inr}
 use Prim.Native.Nat.{ℕ, zero, suc, min, ◌≤◌, ◌<◌}
-use native.Mathlib.Nat.{min-eq_left, min-le_left, min-le_right}
+use native.Mathlib.Nat.{min-eq_left, min-le_right}
 use native.Mathlib.Omega.{arith}
 use lib.Dec.{eqb, leb, ltb}
 use lib.ListN.{length}
 use borrow.Author.Tests.{eq-eqb, ne_eqb, eqb-true, eqb-false}
-use Rattle.laws.specs.First.{first}
 use Rattle.laws.specs.Front.{list}
-use Rattle.laws.proofs.Cases.{lt-or-ge}
 use Rattle.laws.proofs.First.{first-before, first-within, first-behind}
 use Rattle.laws.proofs.Front.{length-list, take-list}
 use Rattle.card.specs.Rules.{segment_broken, before, start_at, broken_at, first_broken}

@@ -7,7 +7,7 @@ use Rattle.card.specs.Rules.{no_key, header_broken, first_broken, needless}
 use Rattle.card.specs.declared.layout.Layout.{Layout}
 use Rattle.card.specs.declared.layout.Header.{Header}
 use Rattle.card.specs.declared.layout.Segment.{Segment}
-use Rattle.card_form.specs.Form.{header_width, segment_width, header_on, count_on, segment_on, with_first, card_bytes}
+use Rattle.card_form.specs.Form.{header_width, segment_width, header_on, count_on, segment_on, card_bytes}
 
 -- ---- the header
 -- it has no key
@@ -54,6 +54,10 @@ kept_on l bytes =
     cond (has_no_key (header_on l bits)) 0 (good_run l (list (segment_on l bits) (standing l bytes)))
 
 -- ---- the card
+-- a header with the first n segments
+abbrev pub with_first : Layout → List ℕ → Header → ℕ → Meaning
+with_first l bits h n = record { header = h; segments = list (segment_on l bits) n }
+
 -- what it says
 abbrev pub mended_meaning : Layout → List ℕ → Meaning
 mended_meaning l bytes = let bits = bits_of_bytes bytes in with_first l bits (mended_header l (header_on l bits)) (kept_on l bytes)

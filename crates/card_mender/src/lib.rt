@@ -2,5 +2,6 @@
 #![tactic(auto)]
 
 pub mod header;
+pub mod judge;
 pub mod segments;
 pub mod write;

@@ -3,12 +3,13 @@ ghost use Rattle.std.specs.Prelude.{◌≡◌, ◌*◌, ◌^◌, ◌≤◌, ◌<
 ghost use Rattle.laws.specs.Front.{list};
 ghost use Rattle.bits.specs.Bits.{bits_of_bytes};
 ghost use Rattle.card.specs.Layout.{LayoutFits};
-ghost use Rattle.card_form.specs.Form.{header_width, segment_place, header_on, segment_on, count_on, with_first};
-ghost use Rattle.card_mender.specs.Mending.{standing, good_run, kept_on, mended_layout};
+ghost use Rattle.card_form.specs.Form.{header_width, segment_place, header_on, segment_on, count_on};
+ghost use Rattle.card_mender.specs.Mending.{standing, good_run, kept_on, with_first, mended_layout};
 
+use crate::judge::is_needless_with;
 use card::layout::{Header, Layout, layout_1};
 use card_form::card_size;
-use card_reader::judge::{first_broken, is_needless};
+use card_reader::judge::first_broken;
 use numbers::counts::fewer;
 
 // How many segments are counted and wholly there, of `claimed` that are counted.
@@ -50,7 +51,7 @@ pub fn mended_layout(bytes: &[u8], l: Layout, h: Header, count: usize) -> Layout
     requires { LayoutFits l × (count < 2 ^ 32) × (segment_place l count ≤ length bytes.now * 8) }
     ensures { result ≡ mended_layout l (with_first l (bits_of_bytes bytes.now) h count) }
 {
-    if is_needless(bytes, l, h, count) {
+    if is_needless_with(bytes, l, h, count) {
         return layout_1();
     }
     l

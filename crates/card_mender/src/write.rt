@@ -4,7 +4,8 @@ ghost use Rattle.laws.specs.Front.{front, list};
 ghost use Rattle.bits.specs.Bits.{bits_of_bytes};
 ghost use Rattle.bits.specs.inside.Pens.{BitsPut};
 ghost use Rattle.card.specs.Layout.{LayoutFits};
-ghost use Rattle.card_form.specs.Form.{segment_place, segment_on, with_first, segments_bits, card_size, card_bytes};
+ghost use Rattle.card_form.specs.Form.{segment_place, segment_on, segments_bits, card_size, card_bytes};
+ghost use Rattle.card_mender.specs.Mending.{with_first};
 ghost use Rattle.card_pen.specs.inside.Putting.{CanPutSegments, CanWrite};
 
 use bits::pen::Pen;

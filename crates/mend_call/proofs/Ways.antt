@@ -11,7 +11,7 @@ use Rattle.laws.specs.Front.{front}
 use Rattle.laws.proofs.Table.{Reads, here, next, end, reads}
 use Rattle.numbers.specs.Flags.{one_if}
 use Rattle.bits.specs.Bits.{bits_of_bytes}
-use Rattle.card.specs.Layout.{Meaning, LayoutFits, layouts, numbered_in, is_found, layout_or1}
+use Rattle.card.specs.Layout.{LayoutFits, layouts, numbered_in, is_found, layout_or1}
 use Rattle.card.specs.Rules.{card_broken}
 use Rattle.card.specs.declared.layout.Layout.{Layout}
 use Rattle.card.specs.declared.layout.FoundLayout.{FoundLayout}
@@ -20,11 +20,11 @@ use Rattle.card.specs.declared.layout.Header.{Header}
 use Rattle.card.specs.declared.layout.Segment.{Segment}
 use Rattle.card.proofs.Known.{Sound, known-sound, found_number}
 use Rattle.card.proofs.Chosen.{Needed}
-use Rattle.card_form.specs.Form.{header_width, segment_place, number_on, header_on, count_on, segment_on, with_first, card_bytes, card_size}
+use Rattle.card_form.specs.Form.{header_width, segment_place, number_on, header_on, count_on, segment_on, card_bytes, card_size}
 use Rattle.card_reader.specs.Reading.{layout_on}
 use Rattle.card_pen.specs.inside.Putting.{CanWrite}
 use Rattle.card_pen.proofs.Puts.{card-length}
-use Rattle.card_mender.specs.Mending.{has_no_key, key_broken, alternate_goes, mended_header, kept_on, mended_meaning, mended_layout, mended_card}
+use Rattle.card_mender.specs.Mending.{has_no_key, key_broken, alternate_goes, mended_header, kept_on, with_first, mended_meaning, mended_layout, mended_card}
 use Rattle.card_mender.proofs.Mended.{kept_there, kept-few, mended-good, mended-needed}
 use Rattle.mend_call.specs.Mends.{card_mended, MendOutcome, mend_outcome, mend_table, mended, mend_call}
 use Rattle.mend_call.specs.inside.Mendable.{Headed}

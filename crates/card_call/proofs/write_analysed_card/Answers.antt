@@ -1,8 +1,4 @@
 -- Each return is a row of the table, or the card written.
-use mathlib.Core.List.{List}
-use Prim.Native.Nat.{ℕ}
-use borrow.Author.Rules.{rules}
-use Rattle.card_form.proofs.Broken.{Asked}
 use Rattle.card_pen.proofs.Kept.{none-holds, can-measure, too_few, can_write, card-written}
 use Rattle.card_judge.specs.Analysed.{analysis, layout_of}
 use Rattle.card_judge.proofs.Analyses.{asked}

@@ -1,6 +1,5 @@
 -- No sum leaves its type, since counts are below 2 ^ 32.
 use native.Mathlib.Omega.{arith}
-use borrow.Author.Rules.{rules}
 use Rattle.bits.proofs.Digits.{few_bits}
 use Rattle.card_form.proofs.card_size.Goals as goal
 

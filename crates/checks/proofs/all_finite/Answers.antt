@@ -1,6 +1,5 @@
 -- `all_finite` is its definition, by its callee.
 use Rattle.checks.specs.Checks.{all_finite}
-use borrow.Author.Rules.{rules}
 use Rattle.checks.proofs.all_finite.Goals as goal
 
 pub returns : goal.returns

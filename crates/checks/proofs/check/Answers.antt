@@ -1,17 +1,16 @@
 -- Each return is the row that its tests lead to.
 use Prim.Native.Nat.{ℕ}
 use mathlib.Core.Path.{◌≡◌, ap, ◌∙◌}
-use mathlib.Core.Bool.{Bool, ◌||◌, not}
+use mathlib.Core.Bool.{◌||◌, not}
 use lib.Dec.{ltb}
 use lib.ListN.{length, drop}
 use borrow.Author.Tests.{lt-ltb, le-ltb}
 use Rattle.laws.proofs.Table.{Reads, end, here, next, reads, told, told-not}
-use Rattle.calls.specs.Call.{Call, given, positions_of}
+use Rattle.calls.specs.Call.{given, positions_of}
 use Rattle.checks.specs.Checks.{table, checked}
 use Rattle.checks.specs.declared.Checked.{Checked}
 use Rattle.checks.specs.declared.Checked.TheVariants.{Go}
 use Rattle.checks.proofs.Passed.{worth}
-use borrow.Author.Rules.{rules}
 use Rattle.checks.proofs.check.Goals as goal
 
 pub returns-then-settings-gt192000 : goal.returns-then-settings-gt192000

@@ -1,5 +1,4 @@
 -- The callees' definitions, put together.
-use borrow.Author.Rules.{rules}
 use Rattle.chroma_calls.specs.FromChroma.{judged}
 use Rattle.chroma_calls.proofs.judge.Goals as goal
 

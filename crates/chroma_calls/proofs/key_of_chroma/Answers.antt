@@ -1,5 +1,4 @@
 -- The only refusal, or the callees' definitions, put together.
-use borrow.Author.Rules.{rules}
 use lib.Ieee.{of_bits}
 use Rattle.chroma_calls.proofs.Outcomes.{no-chroma, found}
 use Rattle.chroma_calls.proofs.key_of_chroma.Goals as goal

@@ -1,5 +1,4 @@
 -- The only refusal, or the callees' definitions, put together.
-use borrow.Author.Rules.{rules}
 use mathlib.Core.Path.{ap, ◌∙◌}
 use lib.ListN.{length}
 use Rattle.scores.specs.declared.scoring.Scored.{Scored}

@@ -1,10 +1,7 @@
 -- `out` is written from the front, a score a turn.
-use borrow.Author.Rules.{rules}
 use native.Mathlib.Omega.{arith}
-use Prim.Native.Nat.{ℕ, ◌≤◌, ◌-◌}
-use lib.ListN.{get_or}
 use lib.Ieee.{nan}
-use Rattle.laws.proofs.Front.{Filled, filled-start, filled_more, filled-own}
+use Rattle.laws.proofs.Front.{filled-start, filled_more, filled-own}
 use Rattle.chroma_calls.proofs.write_scores.Goals as goal
 
 pub loop-k-init : goal.loop-k-init

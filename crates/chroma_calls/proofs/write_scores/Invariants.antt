@@ -1,10 +1,8 @@
 -- `out` is written from the front, a score a turn.
-use borrow.Author.Rules.{rules}
-use native.Mathlib.Omega.{arith}
 use Prim.Native.Nat.{ℕ, ◌≤◌, ◌-◌}
 use lib.ListN.{get_or}
 use lib.Ieee.{nan}
-use Rattle.laws.proofs.Front.{Filled, filled-start, filled_more, filled-own}
+use Rattle.laws.proofs.Front.{Filled}
 use Rattle.chroma_calls.proofs.write_scores.Given as goal
 
 abbrev pub invariant-loop-k : goal.invariant-loop-k

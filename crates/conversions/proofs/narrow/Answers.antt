@@ -1,5 +1,5 @@
 -- The pattern of the magnitude is narrowed, and the sign put back.
-use Rattle.std.proofs.Common.{◌≡◌, ◌-◌, true, false, T, sym, ap, ◌∙◌, subst, arith, rules, le-leb}
+use Rattle.std.proofs.Common.{◌≡◌, ◌-◌, true, false, T, sym, ap, ◌∙◌, subst, arith, le-leb}
 use lib.Ieee.{binary32, binary64, fits, is_nan, neg, of_bits, to_bits}
 use lib.Ieee.Bits.{of_bits-to_bits, to_bits-lt}
 use Rattle.laws.specs.Values.{negative, magnitude_of}

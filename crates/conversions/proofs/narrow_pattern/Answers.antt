@@ -1,5 +1,5 @@
 -- A fact of `proofs/Narrows.antt` for each range of the exponent's field.
-use Rattle.std.proofs.Common.{ℕ, ◌+◌, ◌-◌, ◌*◌, ◌/◌, ◌^◌, sym, ap, ◌∙◌, arith, rules}
+use Rattle.std.proofs.Common.{ℕ, ◌+◌, ◌-◌, ◌*◌, ◌/◌, ◌^◌, sym, ap, ◌∙◌, arith}
 use Rattle.conversions.proofs.Narrows.{digits, digits_lt, quotient_le, narrow-tiny, narrow-low, narrow-middle, narrow_high}
 use Rattle.conversions.proofs.narrow_pattern.Goals as goal
 

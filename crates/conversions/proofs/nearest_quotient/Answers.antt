@@ -1,5 +1,5 @@
 -- Each return is `closest` by how twice the remainder compares with the unit.
-use Rattle.std.proofs.Common.{◌≡◌, ℕ, ◌*◌, ◌%◌, ◌^◌, ◌<◌, sym, ap, ◌∙◌, subst, mod-eq_of_lt, le_antisymm, one-mul, div-le_self, add-one, arith, pow_pos, rules}
+use Rattle.std.proofs.Common.{◌≡◌, ℕ, ◌*◌, ◌%◌, ◌^◌, ◌<◌, sym, ap, ◌∙◌, subst, mod-eq_of_lt, le_antisymm, one-mul, div-le_self, add-one, arith, pow_pos}
 use native.Mathlib.Nat.{mod-le}
 use lib.Pow.{pow-lt}
 use Rattle.laws.proofs.Closest.{closest-under, closest-over, closest-tie}

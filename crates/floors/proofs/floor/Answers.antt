@@ -1,5 +1,5 @@
 -- Each return is a fact of `proofs/Floors.antt`.
-use Rattle.std.proofs.Common.{◌≡◌, ℕ, ◌+◌, ◌^◌, ◌<◌, ◌≤◌, Bool, true, false, T, pos, sym, ap, ◌∙◌, subst, arith, le→leb, rules}
+use Rattle.std.proofs.Common.{◌≡◌, ℕ, ◌+◌, ◌^◌, ◌<◌, ◌≤◌, Bool, true, false, T, pos, sym, ap, ◌∙◌, subst, arith, le→leb}
 use lib.Ieee.{binary32, le, eq, of_int, of_bits, in_float, to_unsigned}
 use Rattle.laws.specs.Values.{magnitude_of}
 use Rattle.laws.proofs.Cuts.{cut_of}

@@ -1,5 +1,4 @@
 -- Each arm knows its variant.
-use borrow.Author.Rules.{rules}
 use Rattle.frames_call.proofs.finished.Goals as goal
 
 pub returns-in-All : goal.returns-in-All

@@ -2,8 +2,8 @@
 use mathlib.Core.Path.{◌≡◌}
 use Prim.Native.Nat.{◌<◌}
 use mathlib.Core.Bool.{false}
-use Rattle.calls.specs.Call.{Call, given}
-use Rattle.calls.specs.Rows.{Rows, lent_rows}
+use Rattle.calls.specs.Call.{given}
+use Rattle.calls.specs.Rows.{lent_rows}
 use Rattle.checks.specs.declared.Checked.{Checked}
 use Rattle.frames.proofs.Passes.{ready}
 use Rattle.frames_call.specs.FramesOnly.{frames_table}

@@ -1,5 +1,4 @@
 -- Each branch is the definition's.
-use borrow.Author.Rules.{rules}
 use mathlib.Core.Path.{refl}
 use borrow.Author.Tests.{lt-ltb, le-ltb}
 use Rattle.goertzel.specs.Goertzel.{harmonic_added}

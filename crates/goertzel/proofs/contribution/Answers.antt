@@ -1,5 +1,4 @@
 -- The callee's definition three times.
-use borrow.Author.Rules.{rules}
 use mathlib.Core.Path.{refl}
 use lib.Ieee.{of_bits}
 use Rattle.goertzel.specs.Goertzel.{contribution_of}

@@ -1,11 +1,7 @@
 -- The magnitudes are read back from the room, and the callees put together.
-use borrow.Author.Rules.{rules}
 use native.Mathlib.Omega.{arith}
-use Prim.Native.Nat.{ℕ}
 use mathlib.Core.Path.{◌≡◌, refl, sym}
-use mathlib.Core.List.{List}
 use lib.ListN.{length, take}
-use lib.Ieee.{Float}
 use Rattle.magnitudes.specs.Magnitudes.{row_magnitude, magnitudes_of}
 use Rattle.goertzel.specs.Goertzel.{goertzel_of}
 use Rattle.filters.proofs.Rooms.{read_back, read-long}

@@ -1,15 +1,10 @@
 -- A row a turn.
-use borrow.Author.Rules.{rules}
 use native.Mathlib.Omega.{arith}
-use Prim.Native.Nat.{ℕ, ◌≤◌, ◌-◌}
-use mathlib.Core.Path.{◌≡◌, refl}
-use lib.ListN.{length, get_or}
-use lib.Ieee.{Float, nan, binary32, of_bits, mul}
-use mathlib.Core.List.{List}
-use Rattle.laws.specs.Turns.{turns}
+use mathlib.Core.Path.{refl}
+use lib.Ieee.{of_bits}
 use Rattle.laws.proofs.Turns.{turns-start, turns-again, turns-end}
 use Rattle.filters.specs.Classes.{class_added, added_by_class}
-use Rattle.goertzel.specs.Goertzel.{contribution_of, contributions_by_class}
+use Rattle.goertzel.specs.Goertzel.{contributions_by_class}
 use Rattle.goertzel.proofs.sum_contributions.Goals as goal
 
 pub loop-k-init : goal.loop-k-init

@@ -1,5 +1,4 @@
 -- The second letter tells a sharp tonic.
-use borrow.Author.Rules.{rules}
 use mathlib.Core.Bool.{true, false}
 use borrow.Author.Tests.{eq-eqb, ne_eqb}
 use Rattle.key_names.proofs.Letters.{counted-by}

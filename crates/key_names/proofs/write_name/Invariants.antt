@@ -1,9 +1,7 @@
 -- `bytes` is written from the front, a byte of the name a turn.
 use Prim.Native.Nat.{ℕ, ◌≤◌, ◌-◌}
-use native.Mathlib.Omega.{arith}
-use borrow.Author.Rules.{rules}
 use lib.ListN.{get_or}
-use Rattle.laws.proofs.Front.{Filled, filled-start, filled_more, filled-own}
+use Rattle.laws.proofs.Front.{Filled}
 use Rattle.key_names.specs.Names.{name_of}
 use Rattle.key_names.proofs.write_name.Given as goal
 

@@ -1,5 +1,4 @@
 -- Either engine leaves the magnitudes of all rows.
-use borrow.Author.Rules.{rules}
 use native.Mathlib.Omega.{arith}
 use mathlib.Core.Path.{◌∙◌}
 use Rattle.magnitudes.proofs.Resonators.{side-by-side-told}

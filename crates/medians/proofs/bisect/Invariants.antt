@@ -1,9 +1,5 @@
 -- A part of the keys goes in a turn, and the one at the rank stays.
-use native.Mathlib.Omega.{arith}
 use Rattle.ranks.specs.inside.Search.{SoughtIn}
-use Rattle.medians.proofs.Halves.{upper-part, lower-part}
-use Rattle.ranks.proofs.Found.{search-ends}
-use borrow.Author.Rules.{rules}
 use Rattle.medians.proofs.bisect.Given as goal
 
 abbrev pub invariant-loop-width : goal.invariant-loop-width

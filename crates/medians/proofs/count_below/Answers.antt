@@ -1,12 +1,8 @@
 -- A value a turn; no more are counted than were seen.
-use Prim.Native.Nat.{◌≤◌, ◌-◌}
-use mathlib.Core.Path.{◌≡◌}
 use native.Mathlib.Omega.{arith}
 use borrow.Author.Tests.{lt-ltb, le-ltb}
-use Rattle.laws.specs.Turns.{turns}
 use Rattle.laws.proofs.Turns.{turns-start, turns-again, turns-end}
-use Rattle.ranks.specs.inside.Search.{count_turn, count_below}
-use borrow.Author.Rules.{rules}
+use Rattle.ranks.specs.inside.Search.{count_below}
 use Rattle.medians.proofs.count_below.Goals as goal
 
 pub loop-i-init : goal.loop-i-init

@@ -1,13 +1,9 @@
 -- Each turn leaves the key at the rank as it was; among those left it is found by halves.
-use mathlib.Core.Path.{◌≡◌, refl, ◌∙◌}
+use mathlib.Core.Path.{◌≡◌}
 use Prim.Native.Nat.{◌≤◌, ◌-◌}
-use native.Mathlib.Omega.{arith}
 use lib.ListN.{length}
 use Rattle.ranks.specs.inside.Search.{SoughtIn}
 use Rattle.ranks.specs.inside.Narrow.{Narrowed}
-use Rattle.ranks.proofs.Found.{search-starts}
-use Rattle.ranks.proofs.Kept.{narrowed-same, narrowed-more}
-use borrow.Author.Rules.{rules}
 use Rattle.medians.proofs.find_key.Given as goal
 
 abbrev pub invariant-loop-turn : goal.invariant-loop-turn

@@ -1,11 +1,7 @@
 -- A +0 a turn.
 use Prim.Native.Nat.{ℕ, ◌≤◌, ◌-◌}
-use native.Mathlib.Omega.{arith}
-use lib.Ieee.{of_bits}
 use Rattle.laws.specs.Values.{plus_zero}
-use Rattle.laws.proofs.Front.{Filled, filled-start, filled_more}
-use Rattle.medians.proofs.Zeroed.{filled-same}
-use borrow.Author.Rules.{rules}
+use Rattle.laws.proofs.Front.{Filled}
 use Rattle.medians.proofs.set_to_zero.Given as goal
 
 abbrev pub invariant-loop-i : goal.invariant-loop-i

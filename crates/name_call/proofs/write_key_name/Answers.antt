@@ -1,5 +1,4 @@
 -- Each return is a row of the table, or the name written.
-use borrow.Author.Rules.{rules}
 use Rattle.name_call.proofs.Outcomes.{no_key, no_room, written}
 use Rattle.name_call.proofs.write_key_name.Goals as goal
 

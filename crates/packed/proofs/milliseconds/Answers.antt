@@ -1,5 +1,4 @@
 -- The whole thousandths of the seconds. Written out, though the search finds it: so a wrong rounding is refused at its value.
-use borrow.Author.Rules.{rules}
 use Rattle.packed.proofs.milliseconds.Goals as goal
 
 pub returns : goal.returns

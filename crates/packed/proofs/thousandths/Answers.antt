@@ -1,7 +1,6 @@
 -- The whole thousandths of the same value, widened.
 use mathlib.Core.Path.{ap, ◌∙◌}
 use lib.Ieee.{Float}
-use borrow.Author.Rules.{rules}
 use Rattle.packed.specs.Packing.{whole_times}
 use Rattle.packed.proofs.thousandths.Goals as goal
 

@@ -12,7 +12,6 @@ use Rattle.packed.specs.declared.Packed.TheVariants.{Number, Refused}
 use Rattle.laws.specs.Values.{plus_zero}
 use Rattle.laws.proofs.Table.{told}
 use Rattle.laws.proofs.Signs.{not-nan}
-use borrow.Author.Rules.{rules}
 use Rattle.packed.proofs.Signs.{times-of-nan, times-below-zero}
 use Rattle.packed.proofs.Values.{tiny, usual, big, field_of, digits_of}
 use Rattle.packed.proofs.whole_times.Goals as goal

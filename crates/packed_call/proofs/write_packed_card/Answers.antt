@@ -1,8 +1,4 @@
 -- Each return is a row of the table, or the card written.
-use mathlib.Core.List.{List}
-use Prim.Native.Nat.{ℕ}
-use borrow.Author.Rules.{rules}
-use Rattle.card_form.proofs.Broken.{Asked}
 use Rattle.card_pen.proofs.Kept.{none-holds, can-measure, too_few, can_write, card-written}
 use Rattle.card_form.specs.Rows.{lent_card_rows}
 use Rattle.packed_cards.specs.Packed.{packed_layout}

@@ -1,6 +1,5 @@
 -- The definition, field by field.
 use mathlib.Core.Path.{refl}
-use borrow.Author.Rules.{rules}
 use Rattle.read_call.specs.Reads.{read_answer}
 use Rattle.read_call.proofs.read_answer.Goals as goal
 

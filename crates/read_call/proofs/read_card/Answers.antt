@@ -1,13 +1,10 @@
 -- Each arm is an outcome of what the table says.
 use mathlib.Core.Path.{◌≡◌, sym, ap, ◌∙◌}
-use mathlib.Core.List.{List}
-use Prim.Native.Nat.{ℕ, ◌*◌, ◌≤◌, min}
+use Prim.Native.Nat.{◌*◌, ◌≤◌, min}
 use native.Mathlib.Omega.{arith}
 use lib.ListN.{length}
-use borrow.Author.Rules.{rules}
-use Rattle.card.specs.declared.layout.Layout.{Layout}
 use Rattle.card_form.specs.Form.{header_width}
-use Rattle.card_form.specs.Rows.{CardRows, rows_in}
+use Rattle.card_form.specs.Rows.{rows_in}
 use Rattle.card_reader.specs.Reading.{judged_of}
 use Rattle.card_reader.specs.declared.judge.CardJudged.TheVariants.{Readable}
 use Rattle.card_reader.proofs.Ready.{Ready, ready, header-small, all_there, segment-small}

@@ -1,18 +1,13 @@
 -- The rows are filled, segment by segment.
 use mathlib.Core.Path.{sym, subst}
-use mathlib.Core.List.{List}
-use Prim.Native.Nat.{ℕ, ◌-◌}
 use native.Mathlib.Nat.{lt_of_lt_of_le}
 use native.Mathlib.Omega.{arith}
 use lib.Pow.{pow_mono}
 use Rattle.bits.specs.Bits.{bits_of_bytes}
 use Rattle.card.specs.Layout.{SegmentFits}
-use Rattle.card.specs.declared.layout.Segment.{Segment}
 use Rattle.card_form.specs.Form.{segment_width, segment_on}
-use Rattle.card_form.specs.Rows.{CardRows}
 use Rattle.card_form.proofs.Lengths.{one-more-fits}
-use Rattle.read_call.proofs.Rows.{Filling, filling-start, filling-more, filling-end}
-use borrow.Author.Rules.{rules}
+use Rattle.read_call.proofs.Rows.{filling-start, filling-more, filling-end}
 use Rattle.read_call.proofs.read_segments.Invariants.{rows_of}
 use Rattle.read_call.proofs.read_segments.Goals as goal
 

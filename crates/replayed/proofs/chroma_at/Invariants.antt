@@ -1,10 +1,7 @@
 -- The array is written from the front, a value a turn.
-use borrow.Author.Rules.{rules}
-use mathlib.Core.Path.{refl}
-use native.Mathlib.Omega.{arith}
 use Prim.Native.Nat.{ℕ, ◌+◌, ◌*◌, ◌≤◌, ◌-◌}
-use Rattle.laws.proofs.Front.{Filled, filled-start, filled_more, filled-whole}
-use Rattle.replayed.specs.Records.{value_at, chroma_at}
+use Rattle.laws.proofs.Front.{Filled}
+use Rattle.replayed.specs.Records.{value_at}
 use Rattle.replayed.proofs.chroma_at.Given as goal
 
 abbrev pub invariant-loop-i : goal.invariant-loop-i

@@ -1,13 +1,10 @@
 -- A record a turn; no more differ than were read.
 use mathlib.Core.Bool.{not}
-use borrow.Author.Rules.{rules}
-use mathlib.Core.Path.{◌≡◌, ap}
+use mathlib.Core.Path.{ap}
 use native.Mathlib.Omega.{arith}
-use Prim.Native.Nat.{◌≤◌, ◌-◌}
-use Rattle.laws.specs.Turns.{turns}
 use Rattle.laws.proofs.Table.{told-not}
 use Rattle.laws.proofs.Turns.{turns-start, turns-again, turns-end}
-use Rattle.replayed.specs.Records.{record_turn, differing}
+use Rattle.replayed.specs.Records.{differing}
 use Rattle.replayed.proofs.count_differing.Goals as goal
 
 pub loop-n-init : goal.loop-n-init

@@ -1,12 +1,8 @@
 -- A record a turn; no more differ than were read.
-use borrow.Author.Rules.{rules}
 use mathlib.Core.Path.{◌≡◌}
-use native.Mathlib.Omega.{arith}
 use Prim.Native.Nat.{◌≤◌, ◌-◌}
 use Rattle.laws.specs.Turns.{turns}
-use Rattle.laws.proofs.Table.{told-not}
-use Rattle.laws.proofs.Turns.{turns-start, turns-again, turns-end}
-use Rattle.replayed.specs.Records.{record_turn, differing}
+use Rattle.replayed.specs.Records.{record_turn}
 use Rattle.replayed.proofs.count_differing.Given as goal
 
 abbrev pub invariant-loop-n : goal.invariant-loop-n

@@ -1,5 +1,4 @@
 -- The callees' definitions, put together.
-use borrow.Author.Rules.{rules}
 use Rattle.replayed.specs.Records.{same_key}
 use Rattle.replayed.proofs.key_agrees.Goals as goal
 

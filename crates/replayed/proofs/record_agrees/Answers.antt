@@ -1,5 +1,4 @@
 -- The callees' definitions, put together.
-use borrow.Author.Rules.{rules}
 use Rattle.replayed.specs.Records.{agrees}
 use Rattle.replayed.proofs.record_agrees.Goals as goal
 

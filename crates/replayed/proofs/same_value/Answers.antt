@@ -1,5 +1,4 @@
 -- The two keys compared are the definition's.
-use borrow.Author.Rules.{rules}
 use Rattle.replayed.proofs.same_value.Goals as goal
 
 pub returns : goal.returns

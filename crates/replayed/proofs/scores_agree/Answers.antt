@@ -1,12 +1,8 @@
 -- A score a turn.
-use borrow.Author.Rules.{rules}
-use mathlib.Core.Path.{◌≡◌}
 use native.Mathlib.Omega.{arith}
-use Prim.Native.Nat.{◌≤◌, ◌-◌}
 use mathlib.Core.Bool.{true}
-use Rattle.laws.specs.Turns.{turns}
 use Rattle.laws.proofs.Turns.{turns-start, turns-again, turns-end}
-use Rattle.replayed.specs.Records.{score_turn, same_scores}
+use Rattle.replayed.specs.Records.{same_scores}
 use Rattle.replayed.proofs.scores_agree.Goals as goal
 
 pub loop-k-init : goal.loop-k-init

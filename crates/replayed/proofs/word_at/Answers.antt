@@ -1,5 +1,4 @@
 -- The four bytes are the definition's.
-use borrow.Author.Rules.{rules}
 use Rattle.replayed.specs.Records.{word_at}
 use Rattle.replayed.proofs.word_at.Goals as goal
 

@@ -1,5 +1,4 @@
 -- The rows that the span asks for.
-use borrow.Author.Rules.{rules}
 use Rattle.rooms.proofs.rows_lack.Goals as goal
 
 pub returns : goal.returns

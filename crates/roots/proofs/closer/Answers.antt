@@ -1,5 +1,4 @@
 -- The laws of Heron's step give the bounds.
-use borrow.Author.Rules.{rules}
 use native.Mathlib.Omega.{arith}
 use Rattle.roots.proofs.Heron.{step-above, step-is-guess, quotient-below}
 use Rattle.roots.proofs.closer.Goals as goal

@@ -1,5 +1,4 @@
 -- √n is above q + 1/2 exactly where n - q * q is above q.
-use borrow.Author.Rules.{rules}
 use Rattle.roots.proofs.Squares.{near-above, near-below}
 use Rattle.roots.proofs.nearest_root.Goals as goal
 

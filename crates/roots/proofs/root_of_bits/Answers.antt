@@ -6,7 +6,6 @@ use lib.Count.{count_leading_zeros}
 use Rattle.roots.specs.Root.{root_of_units}
 use Rattle.roots.proofs.Parts.{Lifted, lifted, shifted, lifted-parts}
 use Rattle.roots.proofs.Values.{root-of-subnormal, root-of-normal}
-use borrow.Author.Rules.{rules}
 use Rattle.roots.proofs.root_of_bits.Goals as goal
 
 pub overflow_sub-z : goal.overflow_sub-z

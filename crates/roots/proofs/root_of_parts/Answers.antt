@@ -1,5 +1,4 @@
 -- The pattern put together is the root's, by `proofs/Parts.antt`.
-use borrow.Author.Rules.{rules}
 use Rattle.roots.proofs.Parts.{parts-root}
 use Rattle.roots.proofs.root_of_parts.Goals as goal
 

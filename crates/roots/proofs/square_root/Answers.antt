@@ -1,5 +1,4 @@
 -- The special arguments are answered by their patterns, any other by its root's.
-use borrow.Author.Rules.{rules}
 use mathlib.Core.Path.{sym, subst, ◌∙◌}
 use native.Mathlib.Omega.{arith}
 use lib.Dec.{T}

@@ -1,5 +1,5 @@
 -- The invariant: √n is below q + 1, and q fits. The measure is q.
-use Prim.Native.Nat.{◌+◌, ◌*◌, ◌^◌, ◌≤◌, ◌<◌}
+use Prim.Native.Nat.{◌<◌}
 use native.Mathlib.Nat.{lt_of_le_of_lt, mul-le-mul}
 use borrow.Author.Rules.{rules}
 use native.Mathlib.Omega.{arith}

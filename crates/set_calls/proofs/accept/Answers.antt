@@ -1,13 +1,10 @@
 -- Each return is a row of the table, or falls through it.
-use borrow.Author.Rules.{rules}
 use mathlib.Core.Path.{◌≡◌, sym, ◌∙◌}
 use mathlib.Core.Bool.{false}
-use mathlib.Core.List.{List}
-use Prim.Native.Nat.{ℕ}
 use Rattle.laws.proofs.Table.{told}
 use Rattle.card.specs.Layout.{most_segments}
 use Rattle.card_reader.specs.Reading.{judged_of}
-use Rattle.set_calls.specs.Sets.{CardSet, untrue}
+use Rattle.set_calls.specs.Sets.{untrue}
 use Rattle.set_calls.proofs.Accepted.{untrue-refused, unread-refused, long-refused, accepted-is}
 use Rattle.set_calls.proofs.accept.Goals as goal
 

@@ -1,12 +1,10 @@
 -- The three tests, of which the last two need a set of its own size.
-use borrow.Author.Rules.{rules}
 use borrow.Author.Tests.{eq-eqb, ne_eqb}
 use mathlib.Core.Path.{◌≡◌, refl, ap, ap₂, ◌∙◌}
 use mathlib.Core.Bool.{Bool, not, ◌||◌}
 use lib.ListN.{length}
 use Rattle.laws.specs.Every.{same_numbers}
 use Rattle.set_places.specs.Places.{set_size}
-use Rattle.set_calls.specs.Sets.{CardSet}
 use Rattle.set_calls.proofs.Truth.{by_size, by-content}
 use Rattle.set_calls.proofs.is_untrue.Goals as goal
 

@@ -1,14 +1,9 @@
 -- A number a turn, joined to those before.
-use borrow.Author.Rules.{rules}
-use borrow.Author.Tests.{eqb-true, eqb-false, not-true, not-false}
-use mathlib.Core.Path.{◌≡◌, refl}
+use mathlib.Core.Path.{◌≡◌}
 use Prim.Native.Nat.{◌-◌, ◌≤◌}
-use native.Mathlib.Omega.{arith}
-use lib.Dec.{eqb}
 use lib.ListN.{length}
 use Rattle.laws.specs.Every.{every}
-use Rattle.laws.proofs.Every.{every_more, every-all}
-use Rattle.laws.proofs.Same.{same_at, as_long, not_as_long}
+use Rattle.laws.proofs.Same.{same_at}
 use Rattle.set_calls.proofs.same_numbers.Given as goal
 
 abbrev pub invariant-loop-i : goal.invariant-loop-i

@@ -1,13 +1,8 @@
 -- A value a turn, joined to those before.
-use borrow.Author.Rules.{rules}
 use native.Mathlib.Omega.{arith}
-use Prim.Native.Nat.{ℕ, ◌≤◌, ◌-◌}
-use mathlib.Core.Path.{◌≡◌, refl}
-use lib.ListN.{length, get_or}
-use lib.Ieee.{nan}
+use mathlib.Core.Path.{refl}
 use Rattle.laws.specs.Every.{every, every_entry}
 use Rattle.laws.proofs.Every.{every_more, every-all}
-use Rattle.sheets.specs.Sheet.{from_to}
 use Rattle.sheets.proofs.all_from_to.Goals as goal
 
 pub loop-i-init : goal.loop-i-init

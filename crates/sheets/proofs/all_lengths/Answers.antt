@@ -1,12 +1,8 @@
 -- A length a turn, joined to those before.
-use borrow.Author.Rules.{rules}
 use native.Mathlib.Omega.{arith}
-use Prim.Native.Nat.{ℕ, ◌≤◌, ◌-◌}
-use mathlib.Core.Path.{◌≡◌, refl}
-use lib.ListN.{length, get_or}
+use mathlib.Core.Path.{refl}
 use Rattle.laws.specs.Every.{every, every_entry}
 use Rattle.laws.proofs.Every.{every_more, every-all}
-use Rattle.sheets.specs.Sheet.{is_length}
 use Rattle.sheets.proofs.all_lengths.Goals as goal
 
 pub loop-i-init : goal.loop-i-init

@@ -1,11 +1,8 @@
 -- A length a turn, joined to those before.
-use borrow.Author.Rules.{rules}
-use native.Mathlib.Omega.{arith}
 use Prim.Native.Nat.{ℕ, ◌≤◌, ◌-◌}
-use mathlib.Core.Path.{◌≡◌, refl}
+use mathlib.Core.Path.{◌≡◌}
 use lib.ListN.{length, get_or}
-use Rattle.laws.specs.Every.{every, every_entry}
-use Rattle.laws.proofs.Every.{every_more, every-all}
+use Rattle.laws.specs.Every.{every}
 use Rattle.sheets.specs.Sheet.{is_length}
 use Rattle.sheets.proofs.all_lengths.Given as goal
 

@@ -1,12 +1,9 @@
 -- A weight a turn, joined to those before.
-use borrow.Author.Rules.{rules}
-use native.Mathlib.Omega.{arith}
 use Prim.Native.Nat.{ℕ, ◌≤◌, ◌-◌}
-use mathlib.Core.Path.{◌≡◌, refl}
+use mathlib.Core.Path.{◌≡◌}
 use lib.ListN.{length, get_or}
-use lib.Ieee.{nan, of_bits}
-use Rattle.laws.specs.Every.{every, every_entry}
-use Rattle.laws.proofs.Every.{every_more, every-all}
+use lib.Ieee.{nan}
+use Rattle.laws.specs.Every.{every}
 use Rattle.sheets.specs.Sheet.{is_weight}
 use Rattle.sheets.proofs.all_weights.Given as goal
 

@@ -1,8 +1,6 @@
 -- A length a turn; each is below 2 ^ 32, so that the sum of 256 fits.
-use borrow.Author.Rules.{rules}
 use native.Mathlib.Omega.{arith}
 use native.Mathlib.Numerals.{add-one}
-use Prim.Native.Nat.{◌≤◌, ◌*◌, ◌-◌}
 use mathlib.Core.Path.{◌≡◌, refl, ap, ◌∙◌}
 use lib.ListN.{length}
 use Rattle.sheets.specs.Sheet.{joined_length}

@@ -1,9 +1,6 @@
 -- A length a turn; each is below 2 ^ 32, so that the sum of 256 fits.
-use borrow.Author.Rules.{rules}
-use native.Mathlib.Omega.{arith}
-use native.Mathlib.Numerals.{add-one}
 use Prim.Native.Nat.{◌≤◌, ◌*◌, ◌-◌}
-use mathlib.Core.Path.{◌≡◌, refl, ap, ◌∙◌}
+use mathlib.Core.Path.{◌≡◌}
 use lib.ListN.{length}
 use Rattle.sheets.specs.Sheet.{joined_length}
 use Rattle.sheets.proofs.joined_length.Given as goal

@@ -1,5 +1,4 @@
 -- The tests joined are those of the definition.
-use borrow.Author.Rules.{rules}
 use Rattle.sheets.specs.Sheet.{lists_fit}
 use Rattle.sheets.proofs.lists_fit.Goals as goal
 

@@ -1,10 +1,9 @@
 -- Where the lengths fit, the rows are few enough for their sum, and the entries decide.
 use mathlib.Core.Bool.{not}
 use mathlib.Core.Path.{ap}
-use borrow.Author.Rules.{rules}
 use native.Mathlib.Omega.{arith}
 use lib.Ieee.{of_bits, neg}
-use Rattle.calls.specs.Call.{Sheet, lent_sheet}
+use Rattle.calls.specs.Call.{lent_sheet}
 use Rattle.sheets.proofs.Formed.{not-fitting, few-rows, by_entries}
 use Rattle.sheets.proofs.well_formed.Goals as goal
 

@@ -1,13 +1,11 @@
 -- Each return is a branch of the definition.
 use mathlib.Core.Path.{◌∙◌, sym, ap, subst}
-use mathlib.Core.List.{List}
 use Prim.Native.Nat.{ℕ, ◌<◌}
 use lib.Ieee.{of_bits}
 use borrow.Author.Rules.{rules}
 use Rattle.keys.specs.Numbers.{key_number}
 use Rattle.keys.proofs.Placed.{numbers-are-keys}
-use Rattle.timeline.specs.inside.Segments.{Stretches, lent_stretches, stretches_in}
-use Rattle.timeline.specs.declared.segment.Segment.{Segment}
+use Rattle.timeline.specs.inside.Segments.{lent_stretches, stretches_in}
 use Rattle.alternates.specs.Alternate.{rival_of}
 use Rattle.alternates.proofs.Noting.{noted-fits, rival-told}
 use Rattle.alternates.proofs.Branches.{none-asked, all-instants, rival-named}

@@ -1,16 +1,12 @@
 -- The loop's invariant: the keys that are left lead from who leads so far to the last of the largest.
-use borrow.Author.Rules.{rules}
-use mathlib.Core.Path.{◌≡◌, refl, ◌∙◌}
-use Prim.Native.Nat.{ℕ, ◌≤◌, ◌-◌, ◌<◌}
-use native.Mathlib.Omega.{arith}
+use mathlib.Core.Path.{◌≡◌}
+use Prim.Native.Nat.{ℕ, ◌≤◌, ◌-◌}
 use lib.ListN.{get_or}
 use lib.Seq.{slice}
 use lib.Ieee.{Float, nan}
 use Rattle.laws.specs.Lists.{fold}
 use Rattle.laws.specs.Order.{total_order}
-use Rattle.laws.specs.Leader.{Standing, outdone, last_largest}
-use Rattle.laws.proofs.Lists.{fold-again, fold_end}
-use Rattle.laws.proofs.Leader.{outdone-same}
+use Rattle.laws.specs.Leader.{Standing, outdone}
 use Rattle.alternates.specs.inside.Noted.{standing_of, leader_in}
 use Rattle.alternates.specs.declared.alternate.Noted.{Noted}
 use Rattle.alternates.proofs.alternate.find_leader.Given as goal

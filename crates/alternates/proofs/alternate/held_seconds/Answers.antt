@@ -1,5 +1,4 @@
 -- What the calls ensure, put together.
-use borrow.Author.Rules.{rules}
 use lib.Ieee.{of_bits}
 use Rattle.alternates.specs.Alternate.{held_seconds}
 use Rattle.alternates.proofs.alternate.held_seconds.Goals as goal

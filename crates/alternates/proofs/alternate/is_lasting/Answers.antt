@@ -1,5 +1,4 @@
 -- What the calls ensure, put together.
-use borrow.Author.Rules.{rules}
 use lib.Ieee.{of_bits, le}
 use Rattle.alternates.specs.Alternate.{lasting}
 use Rattle.alternates.proofs.alternate.is_lasting.Goals as goal

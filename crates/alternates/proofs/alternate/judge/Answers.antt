@@ -1,6 +1,5 @@
 -- Each return is a branch of the definition.
 use lib.Ieee.{of_bits}
-use borrow.Author.Rules.{rules}
 use Rattle.alternates.specs.Alternate.{coverage_of, lacks}
 use Rattle.alternates.proofs.alternate.judge.Goals as goal
 

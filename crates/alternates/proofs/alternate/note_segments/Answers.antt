@@ -1,16 +1,14 @@
 -- The loop's invariant: what is noted of the first i segments; a law for each way through a turn.
-use borrow.Author.Rules.{rules}
-use borrow.Author.Tests.{not-true, not-false}
 use mathlib.Core.Path.{◌≡◌, sym, ap, ◌∙◌, subst}
 use mathlib.Core.Bool.{Bool, true}
 use mathlib.Core.List.{List, [], ◌∷◌, ◌++◌}
-use Prim.Native.Nat.{ℕ, ◌+◌, ◌-◌, ◌<◌, ◌≤◌, zero-le}
+use Prim.Native.Nat.{ℕ, ◌+◌, ◌<◌, zero-le}
 use native.Mathlib.Omega.{arith}
 use lib.Ieee.{Float, binary64, of_bits, add}
 use Rattle.laws.specs.Front.{list}
 use Rattle.laws.proofs.Front.{list-more}
 use Rattle.keys.specs.Numbers.{key_number}
-use Rattle.timeline.specs.inside.Segments.{Stretches, stretches, lent_stretches, stretch_in, stretches_in}
+use Rattle.timeline.specs.inside.Segments.{lent_stretches, stretch_in, stretches_in}
 use Rattle.timeline.specs.declared.segment.Segment.{Segment}
 use Rattle.alternates.specs.Alternate.{lasting}
 use Rattle.alternates.specs.inside.Noted.{noted_of}

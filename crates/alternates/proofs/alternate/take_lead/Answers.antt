@@ -1,5 +1,4 @@
 -- Each return is a branch of the definition.
-use borrow.Author.Rules.{rules}
 use Rattle.alternates.proofs.alternate.take_lead.Goals as goal
 
 pub returns-in-None : goal.returns-in-None

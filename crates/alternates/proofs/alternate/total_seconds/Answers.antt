@@ -1,13 +1,12 @@
 -- The loop's invariant: the sum so far is that of the first i segments.
 use mathlib.Core.Path.{◌≡◌, refl, sym, ap, ◌∙◌}
-use Prim.Native.Nat.{ℕ, ◌-◌, ◌≤◌, zero-le}
+use Prim.Native.Nat.{ℕ, zero-le}
 use native.Mathlib.Omega.{arith}
 use lib.Ieee.{Float, binary64, of_bits, neg, add}
-use borrow.Author.Rules.{rules}
 use Rattle.laws.specs.Front.{list}
 use Rattle.laws.specs.Lists.{fold}
 use Rattle.laws.proofs.Front.{list-more}
-use Rattle.timeline.specs.inside.Segments.{Stretches, stretches, lent_stretches, stretch_in, stretches_in}
+use Rattle.timeline.specs.inside.Segments.{lent_stretches, stretch_in, stretches_in}
 use Rattle.timeline.specs.declared.segment.Segment.{Segment}
 use Rattle.alternates.specs.Alternate.{held_seconds, total_of}
 use Rattle.alternates.proofs.Sums.{total-more}

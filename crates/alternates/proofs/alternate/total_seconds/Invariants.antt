@@ -1,16 +1,8 @@
 -- The loop's invariant: the sum so far is that of the first i segments.
-use mathlib.Core.Path.{◌≡◌, refl, sym, ap, ◌∙◌}
-use Prim.Native.Nat.{ℕ, ◌-◌, ◌≤◌, zero-le}
-use native.Mathlib.Omega.{arith}
-use lib.Ieee.{Float, binary64, of_bits, neg, add}
-use borrow.Author.Rules.{rules}
-use Rattle.laws.specs.Front.{list}
-use Rattle.laws.specs.Lists.{fold}
-use Rattle.laws.proofs.Front.{list-more}
-use Rattle.timeline.specs.inside.Segments.{Stretches, stretches, lent_stretches, stretch_in, stretches_in}
-use Rattle.timeline.specs.declared.segment.Segment.{Segment}
-use Rattle.alternates.specs.Alternate.{held_seconds, total_of}
-use Rattle.alternates.proofs.Sums.{total-more}
+use mathlib.Core.Path.{◌≡◌}
+use Prim.Native.Nat.{◌-◌, ◌≤◌}
+use Rattle.timeline.specs.inside.Segments.{stretches, stretches_in}
+use Rattle.alternates.specs.Alternate.{total_of}
 use Rattle.alternates.proofs.alternate.total_seconds.Given as goal
 
 abbrev pub invariant-loop-i : goal.invariant-loop-i

@@ -1,5 +1,4 @@
 -- What the call ensures, added.
-use borrow.Author.Rules.{rules}
 use lib.Ieee.{binary64, add}
 use mathlib.Core.Path.{ap}
 use Rattle.alternates.proofs.alternate.with_length.Goals as goal

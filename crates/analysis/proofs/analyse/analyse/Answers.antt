@@ -2,9 +2,9 @@
 use borrow.Author.Rules.{rules}
 use mathlib.Core.Path.{◌≡◌, refl}
 use Prim.Native.Nat.{◌<◌}
-use Rattle.calls.specs.Call.{Call, given}
+use Rattle.calls.specs.Call.{given}
 use Rattle.checks.specs.declared.Checked.{Checked}
-use Rattle.rooms.specs.Lent.{Lent, lent_all}
+use Rattle.rooms.specs.Lent.{lent_all}
 use Rattle.analysis.specs.Analyse.{table_of}
 use Rattle.analysis.proofs.Supplied.{supplied}
 use Rattle.analysis.proofs.Outcomes.{crowded-so, table-says, refused-so, empty-so, goes_so}

@@ -1,5 +1,4 @@
 -- An arm for each answer.
-use borrow.Author.Rules.{rules}
 use lib.Ieee.{of_bits}
 use Rattle.answers.specs.Answer.{with_alternate}
 use Rattle.answers.proofs.answer.with_alternate.Goals as goal

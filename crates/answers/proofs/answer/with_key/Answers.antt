@@ -1,5 +1,4 @@
 -- The answer is written out; a key number stays what it is in more bits.
-use borrow.Author.Rules.{rules}
 use Rattle.answers.proofs.answer.with_key.Goals as goal
 
 pub returns : goal.returns

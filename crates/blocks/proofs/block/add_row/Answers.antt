@@ -1,12 +1,8 @@
 -- A position a turn; one not reached yet still has its old sums.
-use borrow.Author.Rules.{rules}
 use native.Mathlib.Omega.{arith}
 use native.Mathlib.Nat.{le_refl}
-use Prim.Native.Nat.{ℕ, ◌≤◌, ◌-◌}
 use mathlib.Core.List.{[]}
-use lib.ListN.{get_or}
-use lib.Ieee.{nan}
-use Rattle.laws.proofs.Front.{Filled, filled-start, filled_more, filled-rest, filled-whole}
+use Rattle.laws.proofs.Front.{filled-start, filled_more, filled-rest, filled-whole}
 use Rattle.filters.specs.Classes.{class_added}
 use Rattle.blocks.specs.inside.Block.{row_added}
 use Rattle.blocks.proofs.block.add_row.Goals as goal

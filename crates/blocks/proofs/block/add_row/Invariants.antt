@@ -1,14 +1,10 @@
 -- A position a turn; one not reached yet still has its old sums.
-use borrow.Author.Rules.{rules}
-use native.Mathlib.Omega.{arith}
-use native.Mathlib.Nat.{le_refl}
 use Prim.Native.Nat.{ℕ, ◌≤◌, ◌-◌}
 use mathlib.Core.List.{[]}
 use lib.ListN.{get_or}
 use lib.Ieee.{nan}
-use Rattle.laws.proofs.Front.{Filled, filled-start, filled_more, filled-rest, filled-whole}
+use Rattle.laws.proofs.Front.{Filled}
 use Rattle.filters.specs.Classes.{class_added}
-use Rattle.blocks.specs.inside.Block.{row_added}
 use Rattle.blocks.proofs.block.add_row.Given as goal
 
 abbrev pub invariant-loop-j : goal.invariant-loop-j

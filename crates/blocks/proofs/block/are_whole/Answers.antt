@@ -1,12 +1,9 @@
 -- A row a turn, joined to those before.
-use borrow.Author.Rules.{rules}
 use native.Mathlib.Omega.{arith}
-use Prim.Native.Nat.{ℕ, ◌≤◌, ◌-◌}
-use mathlib.Core.Path.{◌≡◌, refl}
-use lib.ListN.{length, get_or}
+use mathlib.Core.Path.{refl}
 use Rattle.laws.specs.Every.{every, every_entry}
 use Rattle.laws.proofs.Every.{every_more, every-all}
-use Rattle.blocks.specs.inside.Block.{whole_at, all_whole}
+use Rattle.blocks.specs.inside.Block.{all_whole}
 use Rattle.blocks.proofs.block.are_whole.Goals as goal
 
 pub loop-k-init : goal.loop-k-init

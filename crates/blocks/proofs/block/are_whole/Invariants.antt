@@ -1,12 +1,9 @@
 -- A row a turn, joined to those before.
-use borrow.Author.Rules.{rules}
-use native.Mathlib.Omega.{arith}
 use Prim.Native.Nat.{ℕ, ◌≤◌, ◌-◌}
-use mathlib.Core.Path.{◌≡◌, refl}
+use mathlib.Core.Path.{◌≡◌}
 use lib.ListN.{length, get_or}
-use Rattle.laws.specs.Every.{every, every_entry}
-use Rattle.laws.proofs.Every.{every_more, every-all}
-use Rattle.blocks.specs.inside.Block.{whole_at, all_whole}
+use Rattle.laws.specs.Every.{every}
+use Rattle.blocks.specs.inside.Block.{whole_at}
 use Rattle.blocks.proofs.block.are_whole.Given as goal
 
 abbrev pub invariant-loop-k : goal.invariant-loop-k

@@ -1,11 +1,7 @@
 -- The block is written from the front, a position a turn.
-use borrow.Author.Rules.{rules}
-use native.Mathlib.Omega.{arith}
 use Prim.Native.Nat.{ℕ, ◌≤◌, ◌-◌}
-use lib.Ieee.{of_bits}
-use Rattle.laws.proofs.Front.{Filled, filled-start, filled_more, filled-whole}
+use Rattle.laws.proofs.Front.{Filled}
 use Rattle.filters.specs.Classes.{no_sums}
-use Rattle.blocks.specs.inside.Block.{empty_block}
 use Rattle.blocks.proofs.block.clear.Given as goal
 
 abbrev pub invariant-loop-j : goal.invariant-loop-j

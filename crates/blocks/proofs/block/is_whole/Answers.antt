@@ -1,5 +1,4 @@
 -- A window that begins before the track is not whole; else there is room for it or not.
-use borrow.Author.Rules.{rules}
 use mathlib.Core.Path.{refl}
 use borrow.Author.Tests.{lt-leb, le-leb}
 use Rattle.blocks.specs.inside.Block.{whole_at}

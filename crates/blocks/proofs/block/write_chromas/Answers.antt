@@ -1,13 +1,11 @@
 -- A row a turn, added to all eight.
-use borrow.Author.Rules.{rules}
 use native.Mathlib.Omega.{arith}
-use Prim.Native.Nat.{ℕ, ◌≤◌, ◌-◌}
-use mathlib.Core.Path.{◌≡◌, refl, sym, ap, ◌∙◌}
-use lib.ListN.{length}
+use Prim.Native.Nat.{ℕ}
+use mathlib.Core.Path.{refl, sym, ap, ◌∙◌}
 use Rattle.sheets.specs.Sheet.{joined_length}
 use Rattle.constant_q.specs.inside.Powers.{constant_q_rows}
 use Rattle.constant_q.specs.declared.powers.Placed.{Placed}
-use Rattle.blocks.proofs.Chromas.{row_lies, block_after, block_start, block-long, block_more, block-end}
+use Rattle.blocks.proofs.Chromas.{row_lies, block_start, block-long, block_more, block-end}
 use Rattle.blocks.proofs.block.write_chromas.Goals as goal
 
 pub loop-k-init : goal.loop-k-init

@@ -1,5 +1,4 @@
 -- All eight lie on the track, and side by side each is as alone.
-use borrow.Author.Rules.{rules}
 use native.Mathlib.Omega.{arith}
 use mathlib.Core.Path.{ap, ◌∙◌}
 use Rattle.blocks.specs.inside.Eight.{four_apart}

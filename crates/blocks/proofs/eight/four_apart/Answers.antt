@@ -1,7 +1,5 @@
 -- The callees, put together.
-use borrow.Author.Rules.{rules}
 use mathlib.Core.Path.{refl}
-use borrow.Author.Rules.{rules}
 use Rattle.blocks.proofs.eight.four_apart.Goals as goal
 
 pub returns : goal.returns

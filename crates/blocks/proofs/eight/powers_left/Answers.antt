@@ -1,8 +1,6 @@
 -- The callees' definitions, put together.
-use borrow.Author.Rules.{rules}
 use mathlib.Core.Path.{refl}
 use Rattle.blocks.specs.inside.Eight.{powers_left}
-use borrow.Author.Rules.{rules}
 use Rattle.blocks.proofs.eight.powers_left.Goals as goal
 
 pub returns : goal.returns

@@ -1,12 +1,6 @@
 -- A value of each lane a turn.
-use borrow.Author.Rules.{rules}
-use native.Mathlib.Omega.{arith}
 use Prim.Native.Nat.{◌≤◌, ◌-◌}
-use mathlib.Core.Path.{◌≡◌, refl, ap, ◌∙◌}
-use Rattle.laws.specs.Turns.{turns}
-use Rattle.filters.specs.Resonator.{resonated}
-use Rattle.filters.specs.inside.Alone.{four_alone}
-use Rattle.constant_q.proofs.Resonators.{lanes-more}
+use mathlib.Core.Path.{◌≡◌}
 use Rattle.blocks.specs.inside.Eight.{eight_delays}
 use Rattle.blocks.proofs.eight.run_eight.Given as goal
 

@@ -1,5 +1,4 @@
 -- Eight positions are written at once where all their windows are whole, else the one that is asked for.
-use borrow.Author.Rules.{rules}
 use native.Mathlib.Omega.{arith}
 use mathlib.Core.Path.{sym, ◌∙◌}
 use Rattle.constant_q.specs.inside.Powers.{constant_q_rows}

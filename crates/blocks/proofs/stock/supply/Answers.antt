@@ -1,5 +1,4 @@
 -- The position is held, or the block is filled from it on.
-use borrow.Author.Rules.{rules}
 use Rattle.constant_q.specs.inside.Powers.{constant_q_rows}
 use Rattle.blocks.specs.inside.Stock.{constant_at}
 use Rattle.blocks.proofs.Supplies.{from-held, from-filled}

@@ -1,6 +1,5 @@
 -- The number is the layout's own, or that of none in the list.
 use mathlib.Core.Path.{ap, ◌∙◌}
-use borrow.Author.Rules.{rules}
 use borrow.Author.Tests.{eq-eqb, ne_eqb}
 use Rattle.card.specs.declared.layout.FoundLayout.TheVariants.{Found}
 use Rattle.card.proofs.layout.layout_numbered.Goals as goal

@@ -1,5 +1,4 @@
 -- The tests stand in the definition's order.
-use borrow.Author.Rules.{rules}
 use Rattle.card.specs.Rules.{header_broken}
 use Rattle.card.proofs.rules.header_broken.Goals as goal
 

@@ -1,10 +1,7 @@
 -- The loop's invariant: the search goes on from segment i.
-use Prim.Native.Nat.{ℕ, ◌-◌}
-use lib.ListN.{length}
-use borrow.Author.Rules.{rules}
-use Rattle.card.proofs.Judged.{Judging, judging-start, judging-more, judging-out, judging-end}
+use Prim.Native.Nat.{◌-◌}
+use Rattle.card.proofs.Judged.{Judging}
 use Rattle.card_judge.specs.Analysed.{packed_at}
-use Rattle.card.specs.declared.layout.Segment.{Segment}
 use Rattle.card_judge.proofs.analysed.first_broken.Given as goal
 
 abbrev pub invariant-loop-i : goal.invariant-loop-i

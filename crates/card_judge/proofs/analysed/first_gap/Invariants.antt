@@ -1,15 +1,10 @@
 -- The loop's invariant: the search goes on from i, and `previous` is where segment i has to start.
-use mathlib.Core.Path.{◌≡◌, refl, sym, ap, ◌∙◌}
-use mathlib.Core.Bool.{not}
+use mathlib.Core.Path.{◌≡◌}
 use Prim.Native.Nat.{ℕ, ◌-◌, ◌≤◌}
-use native.Mathlib.Numerals.{add-one}
-use native.Mathlib.Omega.{arith}
-use lib.ListN.{length, get_or}
-use lib.Ieee.{Float, nan, eq, of_bits}
-use borrow.Author.Rules.{rules}
+use lib.ListN.{get_or}
+use lib.Ieee.{nan}
 use Rattle.laws.specs.First.{first}
 use Rattle.laws.specs.Values.{plus_zero}
-use Rattle.laws.proofs.First.{first_start, first-again, first_out, first-end}
 use Rattle.card.specs.Rules.{before}
 use Rattle.card_judge.specs.Analysed.{gap_at, first_gap}
 use Rattle.card_judge.proofs.analysed.first_gap.Given as goal

@@ -1,12 +1,11 @@
 -- Lists that belong together and leave no gap are tried with each layout, in their order.
 use mathlib.Core.Path.{◌≡◌, ap}
 use mathlib.Core.Bool.{false, not}
-use borrow.Author.Rules.{rules}
 use Rattle.laws.proofs.Table.{told}
 use Rattle.card.specs.Rules.{layout_for}
 use Rattle.card.specs.declared.layout.FoundLayout.{FoundLayout}
 use Rattle.card.proofs.Chosen.{kept-first, kept_second, kept-nowhere}
-use Rattle.card_form.proofs.Broken.{Asked, Unequal, meant, layout_asked, equal-lengths, by_lengths, by-gap, by_layout}
+use Rattle.card_form.proofs.Broken.{Unequal, meant, layout_asked, equal-lengths, by_lengths, by-gap, by_layout}
 use Rattle.card_judge.specs.Analysed.{analysis, layout_of}
 use Rattle.card_judge.proofs.Analyses.{asked}
 use Rattle.card_judge.proofs.analysed.layout_of.Goals as goal

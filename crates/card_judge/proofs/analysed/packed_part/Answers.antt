@@ -1,6 +1,5 @@
 -- The callees' definitions, put together.
 use mathlib.Core.Path.{ap, ◌∙◌}
-use borrow.Author.Rules.{rules}
 use Rattle.packed.specs.Packing.{number_or}
 use Rattle.card_judge.proofs.analysed.packed_part.Goals as goal
 

@@ -1,5 +1,4 @@
 -- The callees' definitions, put together.
-use borrow.Author.Rules.{rules}
 use Rattle.card_judge.proofs.analysed.packed_segment.Goals as goal
 
 pub returns : goal.returns

@@ -2,10 +2,7 @@
 use mathlib.Core.Path.{◌∙◌}
 use mathlib.Core.List.{◌++◌, append_assoc, append-nil}
 use native.Mathlib.Omega.{arith}
-use borrow.Author.Rules.{rules}
 use Rattle.bits.specs.Bits.{bits_of, HasBits}
-use Rattle.card.specs.declared.layout.Layout.{Layout}
-use Rattle.card.specs.declared.layout.Header.{Header}
 use Rattle.bits.proofs.Digits.{bits-joined, bits-own, shift_fits}
 use Rattle.card_pen.proofs.fields.header_number.Goals as goal
 

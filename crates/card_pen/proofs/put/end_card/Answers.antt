@@ -1,7 +1,6 @@
 -- Fewer bits are missing than would make another byte.
 use native.Mathlib.Omega.{arith}
 use lib.Pow.{pow_pos}
-use borrow.Author.Rules.{rules}
 use Rattle.card_pen.specs.inside.Putting.{filler_width}
 use Rattle.card_pen.proofs.put.end_card.Goals as goal
 

@@ -1,5 +1,4 @@
 -- The segment is put as one number.
-use borrow.Author.Rules.{rules}
 use Rattle.card_pen.proofs.Puts.{number_put}
 use Rattle.card_pen.proofs.put.put_segment.Goals as goal
 

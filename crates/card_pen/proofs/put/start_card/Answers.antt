@@ -1,5 +1,4 @@
 -- A fresh pen puts the header as one number.
-use borrow.Author.Rules.{rules}
 use Rattle.card_pen.proofs.Puts.{number_put}
 use Rattle.card_pen.proofs.put.start_card.Goals as goal
 

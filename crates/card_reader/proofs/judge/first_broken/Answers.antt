@@ -1,10 +1,8 @@
 -- The run over the segments as they stand on the card.
-use Prim.Native.Nat.{ℕ, ◌-◌}
 use native.Mathlib.Omega.{arith}
 use Rattle.bits.specs.Bits.{bits_of_bytes}
 use borrow.Author.Rules.{rules}
-use Rattle.card.specs.declared.layout.Segment.{Segment}
-use Rattle.card.proofs.Judged.{Judging, judging-start, judging-more, judging-out, judging-end}
+use Rattle.card.proofs.Judged.{judging-start, judging-more, judging-out, judging-end}
 use Rattle.card_form.specs.Form.{segment_width, segment_on}
 use Rattle.card_form.proofs.Lengths.{one-more-fits}
 use Rattle.card_reader.proofs.judge.first_broken.Goals as goal

@@ -1,12 +1,9 @@
 -- The run over the segments as they stand on the card.
-use Prim.Native.Nat.{ℕ, ◌-◌}
-use native.Mathlib.Omega.{arith}
+use Prim.Native.Nat.{◌-◌}
 use Rattle.bits.specs.Bits.{bits_of_bytes}
 use borrow.Author.Rules.{rules}
-use Rattle.card.specs.declared.layout.Segment.{Segment}
-use Rattle.card.proofs.Judged.{Judging, judging-start, judging-more, judging-out, judging-end}
-use Rattle.card_form.specs.Form.{segment_width, segment_on}
-use Rattle.card_form.proofs.Lengths.{one-more-fits}
+use Rattle.card.proofs.Judged.{Judging}
+use Rattle.card_form.specs.Form.{segment_on}
 use Rattle.card_reader.proofs.judge.first_broken.Given as goal
 
 abbrev pub invariant-loop-i : goal.invariant-loop-i

@@ -1,16 +1,13 @@
 -- The header is judged first, then the segments one after the other, as the card's meaning has them.
 use mathlib.Core.Path.{◌≡◌, ap, ◌∙◌}
 use mathlib.Core.Bool.{Bool}
-use mathlib.Core.List.{List}
 use Prim.Native.Nat.{ℕ}
 use borrow.Author.Rules.{rules}
 use Rattle.laws.specs.Front.{list}
 use Rattle.laws.proofs.Table.{told}
 use Rattle.bits.specs.Bits.{bits_of_bytes}
 use Rattle.card.specs.Rules.{header_broken, card_broken}
-use Rattle.card.specs.declared.layout.Layout.{Layout}
 use Rattle.card.specs.declared.layout.Header.{Header}
-use Rattle.card.specs.declared.layout.Segment.{Segment}
 use Rattle.card_form.specs.Form.{header_on, segment_on, meaning_on}
 use Rattle.card_form.proofs.Broken.{by-header, by-segments}
 use Rattle.card_reader.proofs.judge.is_broken.Goals as goal

@@ -1,10 +1,9 @@
 -- Layout 1 is never needless, and another is where the rules of layout 1 are kept.
 use mathlib.Core.Path.{sym, ap, ◌∙◌}
 use mathlib.Core.Bool.{Bool, not, ◌&&◌}
-use borrow.Author.Rules.{rules}
 use borrow.Author.Tests.{eq-eqb, ne_eqb}
 use Rattle.bits.specs.Bits.{bits_of_bytes}
-use Rattle.card.specs.Layout.{Meaning, layout1}
+use Rattle.card.specs.Layout.{layout1}
 use Rattle.card.specs.Rules.{card_broken, needless}
 use Rattle.card.specs.declared.layout.Layout.{Layout}
 use Rattle.card_form.specs.Form.{meaning_on}

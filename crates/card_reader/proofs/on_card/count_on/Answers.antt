@@ -1,7 +1,6 @@
 -- The count is the last field of the header's number.
 use mathlib.Core.Path.{◌∙◌}
 use native.Mathlib.Omega.{arith}
-use borrow.Author.Rules.{rules}
 use Rattle.bits.specs.Bits.{bits_of_bytes}
 use Rattle.bits.proofs.Binary.{binary-bytes}
 use Rattle.bits.proofs.Digits.{length-bytes}

@@ -6,7 +6,6 @@ use native.Mathlib.Omega.{arith}
 use lib.Dec.{eqb}
 use lib.ListN.{length, drop, length-drop}
 use lib.Seq.{take_all}
-use borrow.Author.Rules.{rules}
 use Rattle.bits.specs.Bits.{number_of, bits_of_bytes}
 use Rattle.bits.proofs.Digits.{length-bytes, few_bits}
 use Rattle.card_form.specs.Form.{segment_place, filler_set}

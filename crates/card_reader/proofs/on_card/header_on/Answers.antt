@@ -1,5 +1,4 @@
 -- The header is read as one number, and that taken apart.
-use borrow.Author.Rules.{rules}
 use Rattle.bits.specs.Bits.{bits_of_bytes}
 use Rattle.bits.proofs.Binary.{binary-bytes}
 use Rattle.bits.proofs.Digits.{length-bytes}

@@ -4,7 +4,6 @@ use mathlib.Core.List.{List, [], ◌∷◌}
 use Prim.Native.Nat.{ℕ}
 use native.Mathlib.Omega.{arith}
 use lib.ListN.{length}
-use borrow.Author.Rules.{rules}
 use Rattle.bits.specs.Bits.{number_of, bits_of_bytes}
 use Rattle.card_form.specs.Form.{number_on}
 use Rattle.card_reader.proofs.on_card.number_on.Goals as goal

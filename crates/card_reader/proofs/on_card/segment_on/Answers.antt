@@ -1,7 +1,6 @@
 -- The segment is read as one number, and that taken apart.
 use Prim.Native.Nat.{◌+◌, ◌*◌, ◌^◌, ◌≤◌}
 use native.Mathlib.Omega.{arith}
-use borrow.Author.Rules.{rules}
 use Rattle.bits.specs.Bits.{bits_of_bytes}
 use Rattle.bits.proofs.Binary.{binary-bytes}
 use Rattle.bits.proofs.Digits.{length-bytes, few_bits}

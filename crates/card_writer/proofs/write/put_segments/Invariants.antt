@@ -1,11 +1,8 @@
 -- The loop's invariant: the first i segments have been put.
-use Prim.Native.Nat.{ℕ, ◌-◌, ◌<◌}
-use native.Mathlib.Omega.{arith}
+use Prim.Native.Nat.{◌-◌}
 use lib.ListN.{length}
-use borrow.Author.Rules.{rules}
 use Rattle.card_judge.specs.Analysed.{packed_at}
-use Rattle.card.specs.declared.layout.Segment.{Segment}
-use Rattle.card_pen.proofs.Puts.{Putting, putting-start, putting-room, putting-more, putting-end}
+use Rattle.card_pen.proofs.Puts.{Putting}
 use Rattle.card_writer.proofs.write.put_segments.Given as goal
 
 abbrev pub invariant-loop-i : goal.invariant-loop-i

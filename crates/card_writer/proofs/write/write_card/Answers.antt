@@ -1,11 +1,8 @@
 -- A pen puts the header, the segments and the filler.
 use mathlib.Core.Path.{sym, subst}
-use Prim.Native.Nat.{ℕ}
 use lib.ListN.{length}
-use borrow.Author.Rules.{rules}
 use Rattle.bits.specs.inside.Pens.{BitsPut, fresh_pen}
 use Rattle.card.specs.declared.layout.Header.{Header}
-use Rattle.card.specs.declared.layout.Segment.{Segment}
 use Rattle.card_form.specs.Form.{header_bits}
 use Rattle.card_judge.specs.Analysed.{packed_header, packed_at}
 use Rattle.card_pen.specs.inside.Putting.{CanStart}

@@ -1,5 +1,4 @@
 -- Zero stays, and any other goes around downward.
-use Rattle.std.proofs.Common.{rules}
 use Rattle.chroma.proofs.Classes.{minus-class}
 use Rattle.chroma.proofs.shift.class_below.Goals as goal
 

@@ -1,5 +1,5 @@
 -- Each return is a fact of `proofs/Classes.antt`.
-use Rattle.std.proofs.Common.{◌≡◌, ℕ, ◌%◌, pos, neg_ℤ, ap, ◌∙◌, lit≤, rules}
+use Rattle.std.proofs.Common.{◌≡◌, ℕ, ◌%◌, pos, neg_ℤ, ap, ◌∙◌, lit≤}
 use lib.Ieee.{le, of_bits, to_unsigned}
 use Rattle.laws.proofs.Table.{told}
 use Rattle.laws.proofs.Cuts.{power_of_two, Under, under, may-cut, cut_of}

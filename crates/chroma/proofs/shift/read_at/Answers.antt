@@ -1,5 +1,5 @@
 -- The floor's bin and the next one.
-use Rattle.std.proofs.Common.{◌∙◌, arith, rules}
+use Rattle.std.proofs.Common.{◌∙◌, arith}
 use Rattle.chroma.specs.Shift.{read_at}
 use Rattle.chroma.proofs.Classes.{class-below}
 use Rattle.chroma.proofs.shift.read_at.Goals as goal

@@ -1,5 +1,5 @@
 -- The two ends of the branch beyond 0.01 are the two branches of the definition. Assumes nothing.
-use Rattle.std.proofs.Common.{refl, ap, rules}
+use Rattle.std.proofs.Common.{refl, ap}
 use lib.Ieee.{binary32, lt, of_bits}
 use Rattle.laws.proofs.Table.{told}
 use Rattle.chroma.specs.Shift.{retuned}

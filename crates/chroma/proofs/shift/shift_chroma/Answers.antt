@@ -1,7 +1,7 @@
 -- The array is written from the front, a bin a turn.
-use Rattle.std.proofs.Common.{ℕ, ◌-◌, ◌^◌, ◌≤◌, pos, refl, arith, le→leb, rules}
-use lib.Ieee.{binary32, sub, of_int, in_float}
-use Rattle.laws.proofs.Front.{Filled, filled-start, filled_more, filled-whole}
+use Rattle.std.proofs.Common.{◌^◌, refl, arith, le→leb}
+use lib.Ieee.{in_float}
+use Rattle.laws.proofs.Front.{filled-start, filled_more, filled-whole}
 use Rattle.chroma.specs.Shift.{read_at, shifted}
 use Rattle.chroma.proofs.shift.shift_chroma.Goals as goal
 

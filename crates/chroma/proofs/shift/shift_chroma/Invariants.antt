@@ -1,8 +1,8 @@
 -- The array is written from the front, a bin a turn.
-use Rattle.std.proofs.Common.{ℕ, ◌-◌, ◌^◌, ◌≤◌, pos, refl, arith, le→leb, rules}
-use lib.Ieee.{binary32, sub, of_int, in_float}
-use Rattle.laws.proofs.Front.{Filled, filled-start, filled_more, filled-whole}
-use Rattle.chroma.specs.Shift.{read_at, shifted}
+use Rattle.std.proofs.Common.{ℕ, ◌-◌, ◌≤◌, pos}
+use lib.Ieee.{binary32, sub, of_int}
+use Rattle.laws.proofs.Front.{Filled}
+use Rattle.chroma.specs.Shift.{read_at}
 use Rattle.chroma.proofs.shift.shift_chroma.Given as goal
 
 abbrev pub invariant-loop-bin : goal.invariant-loop-bin

@@ -1,8 +1,7 @@
 -- A bin a turn.
-use Rattle.std.proofs.Common.{◌≡◌, ◌-◌, ◌≤◌, arith, rules}
-use Rattle.laws.specs.Turns.{turns}
+use Rattle.std.proofs.Common.{arith}
 use Rattle.laws.proofs.Turns.{turns-start, turns-again, turns-end}
-use Rattle.chroma.specs.Tuning.{bin_added, frame_added}
+use Rattle.chroma.specs.Tuning.{frame_added}
 use Rattle.chroma.proofs.tuning.add_frame.Goals as goal
 
 pub loop-bin-init : goal.loop-bin-init

@@ -1,7 +1,6 @@
 -- A bin a turn.
-use Rattle.std.proofs.Common.{◌≡◌, ◌-◌, ◌≤◌, arith, rules}
+use Rattle.std.proofs.Common.{◌≡◌, ◌-◌, ◌≤◌}
 use Rattle.laws.specs.Turns.{turns}
-use Rattle.laws.proofs.Turns.{turns-start, turns-again, turns-end}
 use Rattle.chroma.specs.Tuning.{bin_added, frame_added}
 use Rattle.chroma.proofs.tuning.add_frame.Given as goal
 

@@ -1,9 +1,8 @@
 -- A frame a turn.
-use Rattle.std.proofs.Common.{◌≡◌, ◌-◌, ◌≤◌, ap, ◌∙◌, arith, rules}
+use Rattle.std.proofs.Common.{ap, ◌∙◌, arith}
 use lib.Ieee.{of_bits}
-use Rattle.laws.specs.Turns.{turns}
 use Rattle.laws.proofs.Turns.{turns-start, turns-again, turns-end}
-use Rattle.chroma.specs.Tuning.{frames_added, no_peaks, mean_offset, tuning_of}
+use Rattle.chroma.specs.Tuning.{mean_offset, tuning_of}
 use Rattle.chroma.proofs.tuning.estimate_tuning.Goals as goal
 
 pub loop-j-init : goal.loop-j-init

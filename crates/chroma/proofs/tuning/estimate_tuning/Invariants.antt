@@ -1,9 +1,7 @@
 -- A frame a turn.
-use Rattle.std.proofs.Common.{◌≡◌, ◌-◌, ◌≤◌, ap, ◌∙◌, arith, rules}
-use lib.Ieee.{of_bits}
+use Rattle.std.proofs.Common.{◌≡◌, ◌-◌, ◌≤◌}
 use Rattle.laws.specs.Turns.{turns}
-use Rattle.laws.proofs.Turns.{turns-start, turns-again, turns-end}
-use Rattle.chroma.specs.Tuning.{frames_added, no_peaks, mean_offset, tuning_of}
+use Rattle.chroma.specs.Tuning.{frames_added, no_peaks}
 use Rattle.chroma.proofs.tuning.estimate_tuning.Given as goal
 
 abbrev pub invariant-loop-j : goal.invariant-loop-j

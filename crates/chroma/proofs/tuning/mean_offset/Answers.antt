@@ -1,5 +1,4 @@
 -- Each return is a branch of the definition.
-use Rattle.std.proofs.Common.{rules}
 use lib.Ieee.{of_bits, neg}
 use Rattle.chroma.specs.Tuning.{mean_offset}
 use Rattle.chroma.proofs.tuning.mean_offset.Goals as goal

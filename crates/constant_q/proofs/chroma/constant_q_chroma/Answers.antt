@@ -1,6 +1,5 @@
 -- The powers are read back from the room, and the callees put together.
-use Rattle.std.proofs.Common.{◌≡◌, ℕ, length, take, sym, ◌∙◌, arith, rules}
-use lib.Ieee.{Float}
+use Rattle.std.proofs.Common.{◌≡◌, length, take, sym, ◌∙◌, arith}
 use Rattle.constant_q.specs.inside.Powers.{constant_q_rows, power_at, powers_of}
 use Rattle.constant_q.proofs.Rows.{from-powers}
 use Rattle.filters.proofs.Rooms.{read_back, read-long}

@@ -1,10 +1,9 @@
 -- A row a turn, added or passed over.
-use Rattle.std.proofs.Common.{◌≡◌, ◌-◌, ◌≤◌, length, refl, arith, rules}
+use Rattle.std.proofs.Common.{refl, arith}
 use lib.Ieee.{of_bits}
-use Rattle.laws.specs.Turns.{turns}
 use Rattle.laws.proofs.Turns.{turns-start, turns-again, turns-end}
 use Rattle.filters.specs.Classes.{class_added}
-use Rattle.constant_q.specs.inside.Powers.{listed_turn, powers_by_class}
+use Rattle.constant_q.specs.inside.Powers.{powers_by_class}
 use Rattle.laws.proofs.Table.{told}
 use Rattle.constant_q.proofs.chroma.sum_powers.Goals as goal
 

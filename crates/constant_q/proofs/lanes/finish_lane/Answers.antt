@@ -1,5 +1,5 @@
 -- The callees' definitions, put together.
-use Rattle.std.proofs.Common.{refl, rules}
+use Rattle.std.proofs.Common.{refl}
 use Rattle.constant_q.specs.inside.Lanes.{lane_power}
 use Rattle.constant_q.proofs.lanes.finish_lane.Goals as goal
 

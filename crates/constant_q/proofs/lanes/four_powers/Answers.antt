@@ -1,5 +1,5 @@
 -- As far as all lanes reach each has the state of its own resonator, which then ends alone.
-use Rattle.std.proofs.Common.{refl, ap, arith, rules}
+use Rattle.std.proofs.Common.{refl, ap, arith}
 use Rattle.filters.specs.inside.Alone.{four_alone}
 use Rattle.filters.specs.declared.four.Delays.{Delays}
 use Rattle.constant_q.specs.inside.Lanes.{four_powers}

@@ -1,5 +1,5 @@
 -- The callee's definition four times.
-use Rattle.std.proofs.Common.{refl, rules}
+use Rattle.std.proofs.Common.{refl}
 use Rattle.constant_q.proofs.lanes.four_values.Goals as goal
 
 pub returns : goal.returns

@@ -1,5 +1,5 @@
 -- From a resonator at rest.
-use Rattle.std.proofs.Common.{refl, arith, rules}
+use Rattle.std.proofs.Common.{refl, arith}
 use Rattle.laws.specs.Turns.{turns}
 use Rattle.filters.specs.Resonator.{resonated}
 use Rattle.constant_q.proofs.lanes.lane_power.Goals as goal

@@ -1,5 +1,5 @@
 -- The callees' definitions, put together.
-use Rattle.std.proofs.Common.{refl, rules}
+use Rattle.std.proofs.Common.{refl}
 use lib.Ieee.{of_bits}
 use Rattle.constant_q.specs.ConstantQ.{per_count}
 use Rattle.constant_q.proofs.lanes.power_per_count.Goals as goal

@@ -1,5 +1,5 @@
 -- A value a turn.
-use Rattle.std.proofs.Common.{◌≡◌, ◌-◌, ◌≤◌, ap, ◌∙◌, arith, rules}
+use Rattle.std.proofs.Common.{◌≡◌, ap, ◌∙◌, arith}
 use Rattle.constant_q.specs.inside.Lanes.{lane_delay}
 use Rattle.constant_q.proofs.Resonators.{lane-more}
 use Rattle.constant_q.proofs.lanes.run_lane.Goals as goal

@@ -1,7 +1,6 @@
 -- A value a turn.
-use Rattle.std.proofs.Common.{◌≡◌, ◌-◌, ◌≤◌, ap, ◌∙◌, arith, rules}
+use Rattle.std.proofs.Common.{◌≡◌, ◌-◌, ◌≤◌}
 use Rattle.constant_q.specs.inside.Lanes.{lane_delay}
-use Rattle.constant_q.proofs.Resonators.{lane-more}
 use Rattle.constant_q.proofs.lanes.run_lane.Given as goal
 
 abbrev pub invariant-loop-i : goal.invariant-loop-i

@@ -1,5 +1,5 @@
 -- The callees' definitions, put together.
-use Rattle.std.proofs.Common.{refl, rules}
+use Rattle.std.proofs.Common.{refl}
 use Rattle.constant_q.proofs.lanes.step_lanes.Goals as goal
 
 pub returns : goal.returns

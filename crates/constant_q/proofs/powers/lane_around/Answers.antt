@@ -1,5 +1,5 @@
 -- The callee's span.
-use Rattle.std.proofs.Common.{refl, rules}
+use Rattle.std.proofs.Common.{refl}
 use Rattle.constant_q.proofs.powers.lane_around.Goals as goal
 
 pub returns : goal.returns

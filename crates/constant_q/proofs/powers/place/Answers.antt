@@ -1,5 +1,5 @@
 -- The next window begins where this one ends, which is no later than all do.
-use Rattle.std.proofs.Common.{length, refl, arith, rules}
+use Rattle.std.proofs.Common.{length, refl, arith}
 use Rattle.constant_q.proofs.Spans.{joined-within, joined-next}
 use Rattle.constant_q.proofs.powers.place.Goals as goal
 

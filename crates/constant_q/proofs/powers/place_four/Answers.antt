@@ -1,5 +1,5 @@
 -- Each row is placed behind the one before.
-use Rattle.std.proofs.Common.{◌≡◌, ◌+◌, refl, ap, ◌∙◌, arith, rules}
+use Rattle.std.proofs.Common.{◌≡◌, ◌+◌, refl, ap, ◌∙◌, arith}
 use Rattle.sheets.specs.Sheet.{joined_length}
 use Rattle.constant_q.specs.declared.powers.Placed.{Placed}
 use Rattle.constant_q.proofs.powers.place_four.Goals as goal

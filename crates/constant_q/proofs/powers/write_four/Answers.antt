@@ -1,5 +1,5 @@
 -- The rows lie on the track, and the callees are put together.
-use Rattle.std.proofs.Common.{ℕ, length, refl, ap, ◌∙◌, arith, rules}
+use Rattle.std.proofs.Common.{ℕ, length, refl, ap, ◌∙◌, arith}
 use Rattle.constant_q.specs.declared.powers.PlacedLanes.{PlacedLanes}
 use Rattle.constant_q.proofs.Spans.{four-lie}
 use Rattle.constant_q.proofs.powers.write_four.Goals as goal

@@ -1,5 +1,5 @@
 -- The row lies on the track, and the callees are put together.
-use Rattle.std.proofs.Common.{ℕ, length, refl, ap, arith, rules}
+use Rattle.std.proofs.Common.{ℕ, length, refl, ap, arith}
 use Rattle.constant_q.specs.declared.powers.Placed.{Placed}
 use Rattle.constant_q.proofs.Spans.{lane_lies}
 use Rattle.constant_q.proofs.powers.write_one.Goals as goal

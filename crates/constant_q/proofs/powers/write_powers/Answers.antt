@@ -1,9 +1,9 @@
 -- The room is written from the front, four rows or one a turn.
-use Rattle.std.proofs.Common.{◌≡◌, ◌-◌, ◌≤◌, length, refl, arith, rules}
+use Rattle.std.proofs.Common.{refl, arith}
 use Rattle.sheets.specs.Sheet.{joined_length}
 use Rattle.constant_q.specs.inside.Lanes.{four_powers}
-use Rattle.constant_q.specs.inside.Powers.{power_at, powers_of}
-use Rattle.laws.proofs.Front.{Filled, filled-start, filled_more, filled-to}
+use Rattle.constant_q.specs.inside.Powers.{powers_of}
+use Rattle.laws.proofs.Front.{filled-start, filled_more, filled-to}
 use Rattle.filters.proofs.Rooms.{filled-four}
 use Rattle.constant_q.proofs.powers.write_powers.Goals as goal
 

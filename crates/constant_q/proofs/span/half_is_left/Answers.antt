@@ -1,5 +1,5 @@
 -- The definition, with the callee's count.
-use Rattle.std.proofs.Common.{refl, rules}
+use Rattle.std.proofs.Common.{refl}
 use Rattle.constant_q.specs.ConstantQ.{half_left}
 use Rattle.constant_q.proofs.span.half_is_left.Goals as goal
 

@@ -1,5 +1,4 @@
 -- What is left of the window is counted from its start.
-use Rattle.std.proofs.Common.{rules}
 use Rattle.constant_q.proofs.Spans.{span-is}
 use Rattle.constant_q.proofs.span.span_around.Goals as goal
 

@@ -1,13 +1,7 @@
 -- The array is written from the front, a quotient a turn.
-use borrow.Author.Rules.{rules}
-use mathlib.Core.Path.{refl, ap, ◌∙◌}
-use native.Mathlib.Omega.{arith}
 use Prim.Native.Nat.{◌≤◌, ◌-◌}
-use mathlib.Core.List.{List}
-use lib.Ieee.{Float}
-use Rattle.laws.specs.Front.{list}
-use Rattle.laws.proofs.Front.{Filled, filled-start, filled_more, filled-whole}
-use Rattle.correlations.specs.inside.Lanes.{quotient_at, turned_of}
+use Rattle.laws.proofs.Front.{Filled}
+use Rattle.correlations.specs.inside.Lanes.{quotient_at}
 use Rattle.correlations.proofs.correlation.correlations.Given as goal
 
 abbrev pub invariant-loop-root : goal.invariant-loop-root

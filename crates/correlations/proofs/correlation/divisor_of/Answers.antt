@@ -1,5 +1,4 @@
 -- The callees' definitions, put together.
-use borrow.Author.Rules.{rules}
 use mathlib.Core.Path.{◌≡◌, ap, ◌∙◌}
 use mathlib.Core.Bool.{not}
 use lib.Ieee.{Float, of_bits, le}

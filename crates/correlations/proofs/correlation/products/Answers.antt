@@ -1,5 +1,4 @@
 -- Four roots three times.
-use borrow.Author.Rules.{rules}
 use Rattle.correlations.specs.inside.Lanes.{products_of, twelve}
 use Rattle.correlations.proofs.correlation.products.Goals as goal
 

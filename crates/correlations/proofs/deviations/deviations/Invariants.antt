@@ -1,11 +1,7 @@
 -- The array is written from the front, a deviation a turn.
-use borrow.Author.Rules.{rules}
-use mathlib.Core.Path.{refl}
-use native.Mathlib.Omega.{arith}
 use Prim.Native.Nat.{◌≤◌, ◌-◌}
-use Rattle.laws.proofs.Front.{Filled, filled-start, filled_more, filled-whole}
+use Rattle.laws.proofs.Front.{Filled}
 use Rattle.correlations.specs.Correlation.{deviation}
-use Rattle.correlations.specs.inside.Deviations.{deviations_of}
 use Rattle.correlations.proofs.deviations.deviations.Given as goal
 
 abbrev pub invariant-loop-i : goal.invariant-loop-i

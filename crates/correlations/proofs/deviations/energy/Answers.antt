@@ -1,12 +1,9 @@
 -- A square a turn.
-use borrow.Author.Rules.{rules}
-use mathlib.Core.Path.{◌≡◌, refl}
+use mathlib.Core.Path.{refl}
 use native.Mathlib.Omega.{arith}
-use Prim.Native.Nat.{◌≤◌, ◌-◌}
 use lib.Ieee.{of_bits}
-use Rattle.laws.specs.Turns.{turns}
 use Rattle.laws.proofs.Turns.{turns-start, turns-again, turns-end}
-use Rattle.correlations.specs.inside.Deviations.{deviation_energy_turn, deviation_energy}
+use Rattle.correlations.specs.inside.Deviations.{deviation_energy}
 use Rattle.correlations.proofs.deviations.energy.Goals as goal
 
 pub loop-i-init : goal.loop-i-init

@@ -1,11 +1,7 @@
 -- A square a turn.
-use borrow.Author.Rules.{rules}
-use mathlib.Core.Path.{◌≡◌, refl}
-use native.Mathlib.Omega.{arith}
+use mathlib.Core.Path.{◌≡◌}
 use Prim.Native.Nat.{◌≤◌, ◌-◌}
-use lib.Ieee.{of_bits}
 use Rattle.laws.specs.Turns.{turns}
-use Rattle.laws.proofs.Turns.{turns-start, turns-again, turns-end}
 use Rattle.correlations.specs.inside.Deviations.{deviation_energy_turn, deviation_energy}
 use Rattle.correlations.proofs.deviations.energy.Given as goal
 

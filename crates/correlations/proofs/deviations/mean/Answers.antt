@@ -1,5 +1,4 @@
 -- A twelfth of the sum.
-use borrow.Author.Rules.{rules}
 use mathlib.Core.Path.{ap}
 use lib.Ieee.{Float, binary32, of_bits, div}
 use Rattle.correlations.proofs.deviations.mean.Goals as goal

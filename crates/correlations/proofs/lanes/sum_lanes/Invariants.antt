@@ -1,11 +1,7 @@
 -- A pitch class a turn.
-use borrow.Author.Rules.{rules}
 use mathlib.Core.Path.{◌≡◌}
-use native.Mathlib.Omega.{arith}
 use Prim.Native.Nat.{◌≤◌, ◌-◌}
-use lib.Ieee.{of_bits}
 use Rattle.laws.specs.Turns.{turns}
-use Rattle.laws.proofs.Turns.{turns-start, turns-again, turns-end}
 use Rattle.correlations.specs.inside.Lanes.{lanes_turn, lanes_of}
 use Rattle.correlations.proofs.lanes.sum_lanes.Given as goal
 

@@ -1,12 +1,8 @@
 -- The array is written from the front, a class a turn.
-use borrow.Author.Rules.{rules}
 use native.Mathlib.Omega.{arith}
-use Prim.Native.Nat.{ℕ, ◌≤◌, ◌-◌}
 use mathlib.Core.Path.{refl}
-use lib.ListN.{get_or}
-use lib.Ieee.{nan}
-use Rattle.laws.proofs.Front.{Filled, filled-start, filled_more, filled-whole}
-use Rattle.filters.specs.Classes.{divided_value, divided_by_class}
+use Rattle.laws.proofs.Front.{filled-start, filled_more, filled-whole}
+use Rattle.filters.specs.Classes.{divided_by_class}
 use Rattle.filters.proofs.classes.divide_by_weights.Goals as goal
 
 pub loop-i-init : goal.loop-i-init

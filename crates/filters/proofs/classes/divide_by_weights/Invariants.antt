@@ -1,12 +1,9 @@
 -- The array is written from the front, a class a turn.
-use borrow.Author.Rules.{rules}
-use native.Mathlib.Omega.{arith}
 use Prim.Native.Nat.{ℕ, ◌≤◌, ◌-◌}
-use mathlib.Core.Path.{refl}
 use lib.ListN.{get_or}
 use lib.Ieee.{nan}
-use Rattle.laws.proofs.Front.{Filled, filled-start, filled_more, filled-whole}
-use Rattle.filters.specs.Classes.{divided_value, divided_by_class}
+use Rattle.laws.proofs.Front.{Filled}
+use Rattle.filters.specs.Classes.{divided_value}
 use Rattle.filters.proofs.classes.divide_by_weights.Given as goal
 
 abbrev pub invariant-loop-i : goal.invariant-loop-i

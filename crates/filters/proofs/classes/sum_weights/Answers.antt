@@ -1,12 +1,7 @@
 -- A row a turn.
-use borrow.Author.Rules.{rules}
 use native.Mathlib.Omega.{arith}
-use Prim.Native.Nat.{ℕ, ◌≤◌, ◌-◌}
-use mathlib.Core.Path.{◌≡◌, refl}
-use lib.ListN.{length, get_or}
-use lib.Ieee.{Float, nan, of_bits}
-use mathlib.Core.List.{List}
-use Rattle.laws.specs.Turns.{turns}
+use mathlib.Core.Path.{refl}
+use lib.Ieee.{of_bits}
 use Rattle.laws.proofs.Turns.{turns-start, turns-again, turns-end}
 use Rattle.filters.specs.Classes.{class_added, added_by_class, weights_by_class}
 use Rattle.filters.proofs.classes.sum_weights.Goals as goal

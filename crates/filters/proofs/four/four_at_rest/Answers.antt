@@ -1,5 +1,4 @@
 -- The callee's definition four times.
-use borrow.Author.Rules.{rules}
 use mathlib.Core.Path.{refl}
 use Rattle.filters.proofs.four.four_at_rest.Goals as goal
 

@@ -1,5 +1,4 @@
 -- A store keeps the length.
-use borrow.Author.Rules.{rules}
 use native.Mathlib.Omega.{arith}
 use lib.ListN.{length-set}
 use Rattle.filters.proofs.four.put_four.Goals as goal

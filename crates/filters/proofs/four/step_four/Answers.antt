@@ -1,5 +1,4 @@
 -- The callee's definition four times.
-use borrow.Author.Rules.{rules}
 use mathlib.Core.Path.{refl}
 use Rattle.filters.specs.Four.{stepped_four}
 use Rattle.filters.proofs.four.step_four.Goals as goal

@@ -1,5 +1,4 @@
 -- Each branch is the definition's.
-use borrow.Author.Rules.{rules}
 use lib.Ieee.{of_bits}
 use Rattle.laws.proofs.Table.{told}
 use Rattle.filters.specs.Resonator.{windowed_of}

@@ -1,15 +1,11 @@
 -- Each way out of a turn is a law of `Runs`.
 use mathlib.Core.Path.{◌≡◌, refl, ◌∙◌}
 use mathlib.Core.Bool.{true}
-use Prim.Native.Nat.{ℕ, ◌-◌}
 use native.Mathlib.Omega.{arith}
-use borrow.Author.Rules.{rules}
-use borrow.Author.Tests.{not-true, not-false}
-use Rattle.calls.specs.Call.{Call}
-use Rattle.calls.specs.inside.Parts.{call_of, rows}
+use Rattle.calls.specs.inside.Parts.{call_of}
 use Rattle.one_frame.specs.Frame.{loud}
 use Rattle.frames.specs.Run.{energy_at, frame_row}
-use Rattle.frames.proofs.Runs.{frame-fits, heard, row_is, judged, Reached, reached-start, reached-quiet, reached-loud, reached-broken, reached-end, Stocked, stocked-start, stocked-quiet, stocked-loud, centred, tuned}
+use Rattle.frames.proofs.Runs.{frame-fits, heard, row_is, judged, reached-start, reached-quiet, reached-loud, reached-broken, reached-end, stocked-start, stocked-quiet, stocked-loud, centred, tuned}
 use Rattle.frames.proofs.run.fill_rows.Goals as goal
 
 pub loop-k-init : goal.loop-k-init

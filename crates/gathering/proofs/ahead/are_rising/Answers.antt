@@ -1,12 +1,7 @@
 -- A pair a turn, joined to those before.
-use mathlib.Core.Path.{◌≡◌, refl}
-use mathlib.Core.Bool.{Bool}
-use mathlib.Core.List.{List}
-use Prim.Native.Nat.{ℕ, ◌+◌, ◌-◌, ◌≤◌}
+use mathlib.Core.Path.{refl}
+use Prim.Native.Nat.{◌-◌}
 use native.Mathlib.Omega.{arith}
-use borrow.Author.Rules.{rules}
-use lib.ListN.{get_or}
-use lib.Ieee.{Float, nan, le}
 use Rattle.laws.specs.Every.{every, every_pair}
 use Rattle.laws.proofs.Every.{every_more, every-all}
 use Rattle.gathering.proofs.ahead.are_rising.Invariants.{upward}

@@ -1,14 +1,11 @@
 -- A pair a turn, joined to those before.
-use mathlib.Core.Path.{◌≡◌, refl}
+use mathlib.Core.Path.{◌≡◌}
 use mathlib.Core.Bool.{Bool}
 use mathlib.Core.List.{List}
 use Prim.Native.Nat.{ℕ, ◌+◌, ◌-◌, ◌≤◌}
-use native.Mathlib.Omega.{arith}
-use borrow.Author.Rules.{rules}
 use lib.ListN.{get_or}
 use lib.Ieee.{Float, nan, le}
-use Rattle.laws.specs.Every.{every, every_pair}
-use Rattle.laws.proofs.Every.{every_more, every-all}
+use Rattle.laws.specs.Every.{every}
 use Rattle.gathering.proofs.ahead.are_rising.Given as goal
 
 -- centre k is not above the next

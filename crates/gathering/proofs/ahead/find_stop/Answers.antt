@@ -1,10 +1,7 @@
 -- All frames where the centres do not rise; else the loop's invariant: the search goes on from i.
 use mathlib.Core.Bool.{not}
-use mathlib.Core.Path.{◌≡◌, refl, ap}
-use Prim.Native.Nat.{◌-◌}
-use borrow.Author.Rules.{rules}
+use mathlib.Core.Path.{refl, ap}
 use borrow.Author.Tests.{not-true, not-false}
-use Rattle.laws.specs.First.{first}
 use Rattle.laws.proofs.First.{first-again, first_out, first-end}
 use Rattle.gathering.specs.inside.Ahead.{is_past, stop_of}
 use Rattle.gathering.proofs.ahead.find_stop.Goals as goal

@@ -1,11 +1,8 @@
 -- All frames where the centres do not rise; else the loop's invariant: the search goes on from i.
-use mathlib.Core.Path.{◌≡◌, refl}
+use mathlib.Core.Path.{◌≡◌}
 use Prim.Native.Nat.{◌-◌}
-use borrow.Author.Rules.{rules}
-use borrow.Author.Tests.{not-true, not-false}
 use Rattle.laws.specs.First.{first}
-use Rattle.laws.proofs.First.{first-again, first_out, first-end}
-use Rattle.gathering.specs.inside.Ahead.{is_past, stop_of}
+use Rattle.gathering.specs.inside.Ahead.{is_past}
 use Rattle.gathering.proofs.ahead.find_stop.Given as goal
 
 abbrev pub invariant-loop-i : goal.invariant-loop-i

@@ -1,8 +1,5 @@
 -- The loop's invariant: the search goes on from i.
-use mathlib.Core.Path.{◌≡◌, refl}
-use Prim.Native.Nat.{◌-◌}
-use borrow.Author.Rules.{rules}
-use Rattle.laws.specs.First.{first}
+use mathlib.Core.Path.{refl}
 use Rattle.laws.proofs.First.{first-again, first_out, first-end}
 use Rattle.gathering.specs.inside.Ahead.{is_from, first_from}
 use Rattle.gathering.proofs.ahead.first_from.Goals as goal

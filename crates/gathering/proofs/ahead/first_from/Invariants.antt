@@ -1,10 +1,8 @@
 -- The loop's invariant: the search goes on from i.
-use mathlib.Core.Path.{◌≡◌, refl}
+use mathlib.Core.Path.{◌≡◌}
 use Prim.Native.Nat.{◌-◌}
-use borrow.Author.Rules.{rules}
 use Rattle.laws.specs.First.{first}
-use Rattle.laws.proofs.First.{first-again, first_out, first-end}
-use Rattle.gathering.specs.inside.Ahead.{is_from, first_from}
+use Rattle.gathering.specs.inside.Ahead.{is_from}
 use Rattle.gathering.proofs.ahead.first_from.Given as goal
 
 abbrev pub invariant-loop-i : goal.invariant-loop-i

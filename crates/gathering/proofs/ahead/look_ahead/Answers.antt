@@ -1,5 +1,4 @@
 -- What `are_rising` tells, with nothing behind.
-use borrow.Author.Rules.{rules}
 use Rattle.gathering.proofs.ahead.look_ahead.Goals as goal
 
 pub returns : goal.returns

@@ -1,5 +1,4 @@
 -- The frame that `first_from` finds.
-use borrow.Author.Rules.{rules}
 use Rattle.gathering.proofs.ahead.skip_frames.Goals as goal
 
 pub returns : goal.returns

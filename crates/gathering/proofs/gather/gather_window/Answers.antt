@@ -1,6 +1,5 @@
 -- What the walk leaves out changes nothing: a law of `Known`.
 use native.Mathlib.Omega.{arith}
-use borrow.Author.Rules.{rules}
 use Rattle.gathering.proofs.Known.{stop-within, gathered-all}
 use Rattle.gathering.proofs.gather.gather_window.Goals as goal
 

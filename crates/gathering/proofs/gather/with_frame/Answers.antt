@@ -1,5 +1,4 @@
 -- The sums from `add_twelve`, and one frame more.
-use borrow.Author.Rules.{rules}
 use Rattle.gathering.proofs.gather.with_frame.Goals as goal
 
 pub returns : goal.returns

@@ -1,11 +1,10 @@
 -- Each way through a turn is a law of `Cuts`.
-use Rattle.std.proofs.Common.{◌≡◌, ℕ, ◌-◌, sym, ap, ◌∙◌, arith, rules}
+use Rattle.std.proofs.Common.{ℕ, sym, ap, ◌∙◌, arith, rules}
 use lib.Ieee.{of_bits}
-use Rattle.timeline.specs.inside.Estimates.{columns}
 use Rattle.timeline.specs.inside.Segments.{segment_rows, put_segment}
 use Rattle.groups.specs.inside.Written.{group_in}
 use Rattle.groups.specs.declared.cut.Group.{Group}
-use Rattle.groups.proofs.Cuts.{Cut, cut-start, cut_on, cut_off, cut-end}
+use Rattle.groups.proofs.Cuts.{cut-start, cut_on, cut_off, cut-end}
 use Rattle.groups.proofs.cut.cut_groups.Goals as goal
 
 pub loop-j-init : goal.loop-j-init

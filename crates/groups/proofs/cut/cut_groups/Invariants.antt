@@ -1,11 +1,8 @@
 -- Each way through a turn is a law of `Cuts`.
-use Rattle.std.proofs.Common.{◌≡◌, ℕ, ◌-◌, sym, ap, ◌∙◌, arith, rules}
-use lib.Ieee.{of_bits}
+use Rattle.std.proofs.Common.{◌-◌}
 use Rattle.timeline.specs.inside.Estimates.{columns}
-use Rattle.timeline.specs.inside.Segments.{segment_rows, put_segment}
-use Rattle.groups.specs.inside.Written.{group_in}
-use Rattle.groups.specs.declared.cut.Group.{Group}
-use Rattle.groups.proofs.Cuts.{Cut, cut-start, cut_on, cut_off, cut-end}
+use Rattle.timeline.specs.inside.Segments.{segment_rows}
+use Rattle.groups.proofs.Cuts.{Cut}
 use Rattle.groups.proofs.cut.cut_groups.Given as goal
 
 abbrev pub invariant-loop-j : goal.invariant-loop-j

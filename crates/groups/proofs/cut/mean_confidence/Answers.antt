@@ -1,5 +1,4 @@
 -- The sum over the count.
-use Rattle.std.proofs.Common.{rules}
 use Rattle.groups.specs.Groups.{mean_confidence}
 use Rattle.groups.proofs.cut.mean_confidence.Goals as goal
 

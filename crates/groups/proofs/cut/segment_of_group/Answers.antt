@@ -1,5 +1,4 @@
 -- What the calls ensure, put together.
-use Rattle.std.proofs.Common.{rules}
 use Rattle.groups.specs.inside.Written.{grouped}
 use Rattle.groups.proofs.cut.segment_of_group.Goals as goal
 

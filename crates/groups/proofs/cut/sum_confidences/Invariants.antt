@@ -1,8 +1,7 @@
 -- A confidence a turn, from -0.
-use Rattle.std.proofs.Common.{◌≡◌, ℕ, ◌-◌, ◌≤◌, length, get_or, refl, arith, rules}
+use Rattle.std.proofs.Common.{◌≡◌, ℕ, ◌-◌, ◌≤◌, length, get_or}
 use Rattle.laws.specs.Turns.{turns}
-use Rattle.laws.proofs.Turns.{turns-start, turns-again, turns-end}
-use lib.Ieee.{Float, nan, binary32, add, of_bits, neg}
+use lib.Ieee.{Float, nan, binary32, add}
 use Rattle.numbers.specs.Sum.{sum_of}
 use Rattle.groups.proofs.cut.sum_confidences.Given as goal
 

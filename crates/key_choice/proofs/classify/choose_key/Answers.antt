@@ -1,5 +1,4 @@
 -- The three tests joined are those of the definition.
-use borrow.Author.Rules.{rules}
 use mathlib.Core.Bool.{true, false}
 use Rattle.key_choice.proofs.Branches.{chosen}
 use Rattle.key_choice.proofs.classify.choose_key.Goals as goal

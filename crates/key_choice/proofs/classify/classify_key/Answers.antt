@@ -1,5 +1,4 @@
 -- The callees' definitions, put together.
-use borrow.Author.Rules.{rules}
 use Rattle.key_choice.specs.Classify.{classified_of}
 use Rattle.key_choice.proofs.classify.classify_key.Goals as goal
 

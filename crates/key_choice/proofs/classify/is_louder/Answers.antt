@@ -1,5 +1,4 @@
 -- The chroma is read at the two tonics' numbers.
-use borrow.Author.Rules.{rules}
 use native.Mathlib.Omega.{arith}
 use Rattle.keys.proofs.Placed.{tonic-below}
 use Rattle.key_choice.specs.Classify.{louder}

@@ -1,5 +1,4 @@
 -- Each return is a branch of the definition.
-use borrow.Author.Rules.{rules}
 use lib.Ieee.{of_bits}
 use Rattle.key_choice.proofs.Branches.{clear-margin, no-margin}
 use Rattle.key_choice.proofs.classify.key_confidence.Goals as goal

@@ -1,5 +1,4 @@
 -- The number of the turn.
-use borrow.Author.Rules.{rules}
 use Rattle.key_choice.specs.Places.{candidate_at}
 use Rattle.key_choice.proofs.places.candidate.Goals as goal
 

@@ -1,14 +1,9 @@
 -- A key a turn.
-use borrow.Author.Rules.{rules}
-use mathlib.Core.Path.{◌≡◌, ap, ◌∙◌}
-use native.Mathlib.Omega.{arith}
+use mathlib.Core.Path.{◌≡◌}
 use Prim.Native.Nat.{ℕ, ◌≤◌, ◌-◌}
-use lib.Ieee.{of_bits, neg, div}
 use Rattle.laws.specs.Turns.{turns}
-use Rattle.laws.proofs.Turns.{turns-start, turns-again, turns-end}
 use Rattle.key_choice.specs.Places.{placed, candidate_at, places_of}
 use Rattle.key_choice.specs.declared.places.Places.{Places}
-use Rattle.keys.specs.Numbers.{tonics}
 use Rattle.key_choice.proofs.places.find_places.Given as goal
 
 abbrev pub invariant-loop-turn : goal.invariant-loop-turn

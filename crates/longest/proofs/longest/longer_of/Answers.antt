@@ -1,6 +1,5 @@
 -- Each return is a branch of the definition.
 use mathlib.Core.Path.{◌≡◌, sym, ap₂, ◌∙◌}
-use borrow.Author.Rules.{rules}
 use Rattle.laws.specs.Order.{total_order}
 use Rattle.timeline.specs.Segments.{seconds}
 use Rattle.longest.specs.Longest.{longer}

@@ -1,14 +1,9 @@
 -- The loop's invariant: the turns that are left lead from the best so far to the longest.
-use mathlib.Core.Path.{◌≡◌, ap, ◌∙◌}
-use Prim.Native.Nat.{◌-◌, ◌≤◌, zero-le}
-use native.Mathlib.Omega.{arith}
-use borrow.Author.Rules.{rules}
+use mathlib.Core.Path.{◌≡◌}
+use Prim.Native.Nat.{◌-◌, ◌≤◌}
 use Rattle.laws.specs.Turns.{turns}
-use Rattle.laws.proofs.Turns.{turns-again, turns-end}
-use Rattle.timeline.specs.Segments.{segment_at}
-use Rattle.timeline.specs.inside.Segments.{Stretches, stretches, lent_stretches, stretches_in}
-use Rattle.longest.proofs.Rows.{read_at, rows_start}
-use Rattle.longest.specs.Longest.{longer, longest_turn, longest_of}
+use Rattle.timeline.specs.inside.Segments.{stretches, stretches_in}
+use Rattle.longest.specs.Longest.{longest_turn, longest_of}
 use Rattle.longest.proofs.longest.longest_segment.Given as goal
 
 abbrev pub invariant-loop-i : goal.invariant-loop-i

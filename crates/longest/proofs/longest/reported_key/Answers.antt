@@ -1,6 +1,5 @@
 -- Each return is a branch of the definition.
-use borrow.Author.Rules.{rules}
-use Rattle.timeline.specs.inside.Segments.{Stretches, lent_stretches}
+use Rattle.timeline.specs.inside.Segments.{lent_stretches}
 use Rattle.longest.proofs.Branches.{of-several, of_one}
 use Rattle.longest.proofs.longest.reported_key.Goals as goal
 

@@ -1,5 +1,4 @@
 -- A law for each way out.
-use borrow.Author.Rules.{rules}
 use Rattle.calls.specs.inside.Parts.{rows}
 use Rattle.timeline.specs.inside.Estimates.{estimate_rows}
 use Rattle.timeline.specs.inside.Segments.{segment_rows}

@@ -1,5 +1,4 @@
 -- The resonators run together, then the callee's definition four times.
-use borrow.Author.Rules.{rules}
 use mathlib.Core.Path.{refl}
 use Rattle.magnitudes.specs.InFours.{batch_powers}
 use Rattle.magnitudes.proofs.batch.goertzel_power_batch_4.Goals as goal

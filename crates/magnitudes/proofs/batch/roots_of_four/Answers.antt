@@ -1,5 +1,4 @@
 -- The callee's definition four times.
-use borrow.Author.Rules.{rules}
 use mathlib.Core.Path.{refl}
 use Rattle.magnitudes.proofs.batch.roots_of_four.Goals as goal
 

@@ -1,14 +1,8 @@
 -- A value of the frame a turn.
-use borrow.Author.Rules.{rules}
 use native.Mathlib.Omega.{arith}
-use Prim.Native.Nat.{ℕ, ◌≤◌, ◌-◌}
-use mathlib.Core.Path.{◌≡◌, refl, ◌∙◌}
-use lib.ListN.{length}
-use Rattle.laws.specs.Turns.{turns}
+use mathlib.Core.Path.{refl, ◌∙◌}
 use Rattle.laws.proofs.Turns.{turns-start, turns-again, turns-end}
-use Rattle.filters.specs.Four.{same_for_four, stepped_four, four_resonated}
-use Rattle.filters.specs.declared.four.Delays.{Delays}
-use Rattle.magnitudes.specs.Magnitudes.{frame_value}
+use Rattle.filters.specs.Four.{four_resonated}
 use Rattle.magnitudes.proofs.batch.run_batch.Goals as goal
 
 pub loop-i-init : goal.loop-i-init

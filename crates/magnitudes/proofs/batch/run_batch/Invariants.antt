@@ -1,11 +1,8 @@
 -- A value of the frame a turn.
-use borrow.Author.Rules.{rules}
-use native.Mathlib.Omega.{arith}
 use Prim.Native.Nat.{ℕ, ◌≤◌, ◌-◌}
-use mathlib.Core.Path.{◌≡◌, refl, ◌∙◌}
+use mathlib.Core.Path.{◌≡◌}
 use lib.ListN.{length}
 use Rattle.laws.specs.Turns.{turns}
-use Rattle.laws.proofs.Turns.{turns-start, turns-again, turns-end}
 use Rattle.filters.specs.Four.{same_for_four, stepped_four, four_resonated}
 use Rattle.filters.specs.declared.four.Delays.{Delays}
 use Rattle.magnitudes.specs.Magnitudes.{frame_value}

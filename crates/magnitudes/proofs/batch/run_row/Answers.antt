@@ -1,14 +1,8 @@
 -- A value of the frame a turn.
-use borrow.Author.Rules.{rules}
 use native.Mathlib.Omega.{arith}
-use Prim.Native.Nat.{ℕ, ◌≤◌, ◌-◌}
-use mathlib.Core.Path.{◌≡◌, refl, ◌∙◌}
-use lib.ListN.{length}
-use Rattle.laws.specs.Turns.{turns}
+use mathlib.Core.Path.{refl, ◌∙◌}
 use Rattle.laws.proofs.Turns.{turns-start, turns-again, turns-end}
-use Rattle.filters.specs.Resonator.{stepped_of, resonated}
-use Rattle.filters.specs.declared.resonator.Delay.{Delay}
-use Rattle.magnitudes.specs.Magnitudes.{frame_value}
+use Rattle.filters.specs.Resonator.{resonated}
 use Rattle.magnitudes.proofs.batch.run_row.Goals as goal
 
 pub loop-i-init : goal.loop-i-init

@@ -1,13 +1,10 @@
 -- A batch a turn.
-use borrow.Author.Rules.{rules}
-use native.Mathlib.Omega.{arith}
 use Prim.Native.Nat.{ℕ, ◌*◌, ◌≤◌, ◌-◌}
-use mathlib.Core.Path.{◌≡◌, refl, ◌∙◌}
+use mathlib.Core.Path.{◌≡◌}
 use mathlib.Core.List.{List}
 use lib.ListN.{length}
 use lib.Ieee.{Float}
 use Rattle.laws.specs.Turns.{turns}
-use Rattle.laws.proofs.Turns.{turns-start, turns-again, turns-end}
 use Rattle.filters.specs.Four.{put_four}
 use Rattle.magnitudes.specs.InFours.{coefficients_from, batch_powers, roots_of, put_batches}
 use Rattle.magnitudes.proofs.batch.write_batches.Given as goal

@@ -1,5 +1,4 @@
 -- The batches, then the odd rows.
-use borrow.Author.Rules.{rules}
 use mathlib.Core.Path.{refl, ◌∙◌}
 use Rattle.magnitudes.specs.InFours.{in_fours}
 use Rattle.magnitudes.proofs.batch.write_in_fours.Goals as goal

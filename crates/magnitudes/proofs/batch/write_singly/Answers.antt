@@ -1,12 +1,7 @@
 -- A row a turn.
 use borrow.Author.Rules.{rules}
 use native.Mathlib.Omega.{arith}
-use Prim.Native.Nat.{ℕ, ◌≤◌, ◌-◌}
-use mathlib.Core.Path.{◌≡◌, refl}
-use mathlib.Core.List.{List}
-use lib.ListN.{length, set}
-use lib.Ieee.{Float}
-use Rattle.laws.specs.Turns.{turns}
+use mathlib.Core.Path.{refl}
 use Rattle.laws.proofs.Turns.{turns-again, turns-end}
 use Rattle.magnitudes.specs.Magnitudes.{row_magnitude}
 use Rattle.magnitudes.specs.InFours.{put_singly}

@@ -1,13 +1,10 @@
 -- A row a turn.
-use borrow.Author.Rules.{rules}
-use native.Mathlib.Omega.{arith}
 use Prim.Native.Nat.{ℕ, ◌≤◌, ◌-◌}
-use mathlib.Core.Path.{◌≡◌, refl}
+use mathlib.Core.Path.{◌≡◌}
 use mathlib.Core.List.{List}
 use lib.ListN.{length, set}
 use lib.Ieee.{Float}
 use Rattle.laws.specs.Turns.{turns}
-use Rattle.laws.proofs.Turns.{turns-again, turns-end}
 use Rattle.magnitudes.specs.Magnitudes.{row_magnitude}
 use Rattle.magnitudes.specs.InFours.{put_singly}
 use Rattle.magnitudes.proofs.batch.write_singly.Given as goal

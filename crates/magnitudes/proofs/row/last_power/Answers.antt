@@ -1,5 +1,4 @@
 -- The callees' definitions, put together.
-use borrow.Author.Rules.{rules}
 use mathlib.Core.Path.{refl}
 use lib.Ieee.{of_bits}
 use Rattle.magnitudes.specs.Magnitudes.{last_power}

@@ -1,12 +1,8 @@
 -- The room is written from the front, a row a turn.
-use borrow.Author.Rules.{rules}
 use native.Mathlib.Omega.{arith}
-use Prim.Native.Nat.{ℕ, ◌≤◌, ◌-◌}
-use lib.ListN.{length, get_or}
-use lib.Ieee.{nan}
-use Rattle.laws.proofs.Front.{Filled, filled-start, filled_more, filled-to}
+use Rattle.laws.proofs.Front.{filled-start, filled_more, filled-to}
 use Rattle.magnitudes.specs.Magnitudes.{last_magnitude}
-use Rattle.magnitudes.specs.SideBySide.{delay_lists, delay_at, last_magnitudes}
+use Rattle.magnitudes.specs.SideBySide.{last_magnitudes}
 use Rattle.magnitudes.proofs.side_by_side.last_magnitudes.Goals as goal
 
 pub loop-k-init : goal.loop-k-init

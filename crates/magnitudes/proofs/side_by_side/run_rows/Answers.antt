@@ -1,13 +1,8 @@
 -- A value of the frame a turn.
-use borrow.Author.Rules.{rules}
 use native.Mathlib.Omega.{arith}
-use Prim.Native.Nat.{ℕ, ◌≤◌, ◌-◌}
-use lib.ListN.{length}
-use mathlib.Core.Path.{◌≡◌, refl, ◌∙◌}
-use Rattle.laws.specs.Turns.{turns}
+use mathlib.Core.Path.{refl, ◌∙◌}
 use Rattle.laws.proofs.Turns.{turns-start, turns-again, turns-end}
-use Rattle.magnitudes.specs.Magnitudes.{frame_value}
-use Rattle.magnitudes.specs.SideBySide.{DelayLists, delay_lists, stepped_rows, run_rows}
+use Rattle.magnitudes.specs.SideBySide.{run_rows}
 use Rattle.magnitudes.proofs.side_by_side.run_rows.Goals as goal
 
 pub loop-i-init : goal.loop-i-init

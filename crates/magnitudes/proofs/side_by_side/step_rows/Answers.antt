@@ -1,10 +1,8 @@
 -- Both lists are written from the front, a row a turn.
 use borrow.Author.Rules.{rules}
 use native.Mathlib.Omega.{arith}
-use Prim.Native.Nat.{◌≤◌, ◌-◌}
-use lib.ListN.{length}
 use Rattle.laws.proofs.Front.{filled-start}
-use Rattle.magnitudes.proofs.Resonators.{Stepped, row-stepped, rows-stepped}
+use Rattle.magnitudes.proofs.Resonators.{row-stepped, rows-stepped}
 use Rattle.magnitudes.proofs.side_by_side.step_rows.Goals as goal
 
 pub loop-k-init : goal.loop-k-init

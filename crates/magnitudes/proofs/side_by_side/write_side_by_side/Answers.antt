@@ -1,9 +1,6 @@
 -- The callees' definitions, put together: the resonators start at rest.
-use borrow.Author.Rules.{rules}
-use mathlib.Core.Path.{◌≡◌, ap, ◌∙◌}
-use mathlib.Core.List.{List}
+use mathlib.Core.Path.{◌∙◌}
 use lib.Ieee.{of_bits}
-use Rattle.laws.specs.Front.{front}
 use Rattle.magnitudes.specs.SideBySide.{last_magnitudes, side_by_side}
 use Rattle.magnitudes.proofs.side_by_side.write_side_by_side.Goals as goal
 

@@ -1,11 +1,8 @@
 -- The loop's invariant: what was counted and noted after i numbers.
-use borrow.Author.Rules.{rules}
-use borrow.Author.Tests.{not-true, not-false}
-use mathlib.Core.List.{List}
-use Prim.Native.Nat.{ℕ, ◌-◌, ◌<◌}
+use Prim.Native.Nat.{◌<◌}
 use native.Mathlib.Omega.{arith}
-use lib.ListN.{length, get_or}
-use Rattle.majorities.proofs.Counting.{Counted, counted_start, votes-fit, unmet-fits, counted-new, counted-known, counted-all}
+use lib.ListN.{get_or}
+use Rattle.majorities.proofs.Counting.{counted_start, votes-fit, unmet-fits, counted-new, counted-known, counted-all}
 use Rattle.majorities.proofs.majority.count_votes.Goals as goal
 
 pub loop-i-init : goal.loop-i-init

@@ -1,17 +1,14 @@
 -- The loop's invariant: the keys that are left lead from who leads so far to the last of the largest.
-use borrow.Author.Rules.{rules}
 use borrow.Author.Tests.{le-leb, lt-leb}
 use mathlib.Core.Path.{◌≡◌, refl, ap, ◌∙◌}
-use Prim.Native.Nat.{ℕ, ◌≤◌, ◌-◌, ◌+◌, ◌<◌}
+use Prim.Native.Nat.{ℕ, ◌+◌, ◌<◌}
 use native.Mathlib.Omega.{arith}
-use lib.Dec.{leb}
 use lib.ListN.{get_or}
 use lib.Seq.{slice}
 use Rattle.laws.specs.Lists.{fold}
-use Rattle.laws.specs.Leader.{Standing, leads, leading_key, outdone, last_largest}
+use Rattle.laws.specs.Leader.{Standing, leads, leading_key, last_largest}
 use Rattle.laws.proofs.Lists.{fold-again, fold_end}
 use Rattle.majorities.specs.inside.Tally.{most_voted}
-use Rattle.majorities.specs.declared.majority.Tally.{Tally}
 use Rattle.majorities.proofs.Counting.{from_zero}
 use Rattle.majorities.proofs.majority.most_voted.Invariants.{step}
 use Rattle.majorities.proofs.majority.most_voted.Goals as goal

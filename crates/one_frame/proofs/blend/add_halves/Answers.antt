@@ -1,8 +1,7 @@
 -- The array is written from the front, a value a turn.
-use Rattle.std.proofs.Common.{ℕ, ◌-◌, ◌≤◌, List, get_or, refl, arith, rules}
-use lib.Ieee.{Float, nan, binary32, of_bits, add, mul}
-use Rattle.laws.proofs.Front.{Filled, filled-start, filled_more, filled-whole}
-use Rattle.laws.specs.Values.{a_half}
+use Rattle.std.proofs.Common.{refl, arith}
+use lib.Ieee.{of_bits}
+use Rattle.laws.proofs.Front.{filled-start, filled_more, filled-whole}
 use Rattle.one_frame.specs.Blend.{halves_of}
 use Rattle.one_frame.proofs.blend.add_halves.Invariants.{both}
 use Rattle.one_frame.proofs.blend.add_halves.Goals as goal

@@ -1,9 +1,8 @@
 -- The array is written from the front, a value a turn.
-use Rattle.std.proofs.Common.{ℕ, ◌-◌, ◌≤◌, List, get_or, refl, arith, rules}
-use lib.Ieee.{Float, nan, binary32, of_bits, add, mul}
-use Rattle.laws.proofs.Front.{Filled, filled-start, filled_more, filled-whole}
+use Rattle.std.proofs.Common.{ℕ, ◌-◌, ◌≤◌, List, get_or}
+use lib.Ieee.{Float, nan, binary32, add, mul}
+use Rattle.laws.proofs.Front.{Filled}
 use Rattle.laws.specs.Values.{a_half}
-use Rattle.one_frame.specs.Blend.{halves_of}
 use Rattle.one_frame.proofs.blend.add_halves.Given as goal
 
 -- half of each at place k

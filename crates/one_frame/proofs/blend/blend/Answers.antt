@@ -1,5 +1,5 @@
 -- The test is the definition's, and each arm its callees' definitions.
-use Rattle.std.proofs.Common.{ap, ◌∙◌, ap₂, rules}
+use Rattle.std.proofs.Common.{ap, ◌∙◌, ap₂}
 use lib.Ieee.{lt}
 use Rattle.laws.specs.Values.{epsilon}
 use Rattle.laws.proofs.Table.{told}

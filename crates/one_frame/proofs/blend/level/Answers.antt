@@ -1,5 +1,5 @@
 -- The callees' definitions, put together.
-use Rattle.std.proofs.Common.{refl, rules}
+use Rattle.std.proofs.Common.{refl}
 use Rattle.one_frame.specs.Blend.{levelled}
 use Rattle.one_frame.proofs.blend.level.Goals as goal
 

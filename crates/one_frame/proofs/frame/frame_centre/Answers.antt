@@ -1,6 +1,6 @@
 -- `frame_centre` meets its contract: std rounds both numbers.
 use Rattle.calls.specs.Call.{seconds_at}
-use Rattle.std.proofs.Common.{refl, rules}
+use Rattle.std.proofs.Common.{refl}
 use Rattle.one_frame.proofs.frame.frame_centre.Goals as goal
 
 pub returns : goal.returns

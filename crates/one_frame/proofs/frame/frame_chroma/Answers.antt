@@ -1,5 +1,5 @@
 -- The callees' definitions, put together.
-use Rattle.std.proofs.Common.{refl, rules}
+use Rattle.std.proofs.Common.{refl}
 use Rattle.one_frame.proofs.frame.frame_chroma.Goals as goal
 
 pub returns : goal.returns

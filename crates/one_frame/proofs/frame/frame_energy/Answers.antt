@@ -1,6 +1,5 @@
 -- `frame_energy` meets its contract: a sample a turn, and -0 added for one that is not finite changes nothing.
-use Rattle.std.proofs.Common.{◌≡◌, ◌+◌, ◌-◌, ◌≤◌, true, false, cond, T, get_or, sym, refl, ◌∙◌, ⊎_elim, arith, rules}
-use Rattle.laws.specs.Turns.{turns}
+use Rattle.std.proofs.Common.{◌≡◌, ◌+◌, true, false, cond, T, get_or, sym, refl, ◌∙◌, arith, rules}
 use Rattle.laws.proofs.Turns.{turns-start, turns-again, turns-end}
 use Rattle.one_frame.specs.Frame.{square_added, frame_energy}
 use lib.Ieee.Scale.{finite}

@@ -1,5 +1,5 @@
 -- By its two callees.
-use Rattle.std.proofs.Common.{refl, rules}
+use Rattle.std.proofs.Common.{refl}
 use Rattle.one_frame.proofs.frame.frame_row.Goals as goal
 
 pub returns : goal.returns

@@ -1,5 +1,5 @@
 -- `is_whole` meets its contract: a test a turn.
-use Rattle.std.proofs.Common.{◌≡◌, ℕ, ◌+◌, ◌-◌, ◌≤◌, Bool, true, false, ◌&&◌, length, get_or, refl, ap, ◌∙◌, ap₂, arith, rules}
+use Rattle.std.proofs.Common.{◌≡◌, ℕ, ◌+◌, Bool, true, false, ◌&&◌, length, get_or, refl, ap, ◌∙◌, ap₂, arith, rules}
 use lib.Ieee.{nan}
 use lib.Ieee.Scale.{finite}
 use Rattle.laws.specs.Every.{every, every_entry}

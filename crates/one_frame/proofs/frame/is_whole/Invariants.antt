@@ -1,10 +1,8 @@
 -- `is_whole` meets its contract: a test a turn.
-use Rattle.std.proofs.Common.{◌≡◌, ℕ, ◌+◌, ◌-◌, ◌≤◌, Bool, true, false, ◌&&◌, length, get_or, refl, ap, ◌∙◌, ap₂, arith, rules}
+use Rattle.std.proofs.Common.{◌≡◌, ℕ, ◌-◌, ◌≤◌, ◌&&◌, get_or}
 use lib.Ieee.{nan}
 use lib.Ieee.Scale.{finite}
-use Rattle.laws.specs.Every.{every, every_entry}
-use Rattle.laws.proofs.Every.{every_more}
-use Rattle.one_frame.specs.Frame.{whole}
+use Rattle.laws.specs.Every.{every}
 use Rattle.one_frame.proofs.frame.is_whole.Given as goal
 
 abbrev pub invariant-loop-i : goal.invariant-loop-i

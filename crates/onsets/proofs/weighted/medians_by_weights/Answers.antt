@@ -1,16 +1,13 @@
 -- A bin a turn; the work numbers end zeroed each time.
-use borrow.Author.Rules.{rules}
 use mathlib.Core.Path.{refl, ap, ◌∙◌}
 use native.Mathlib.Omega.{arith}
-use Prim.Native.Nat.{ℕ, ◌≤◌, ◌-◌}
 use mathlib.Core.List.{List}
 use lib.Ieee.{Float}
 use lib.ListN.{take}
-use Rattle.laws.specs.Front.{list}
-use Rattle.laws.proofs.Front.{Filled, filled-start, filled_more, filled-whole}
+use Rattle.laws.proofs.Front.{filled-start, filled_more, filled-whole}
 use Rattle.medians.specs.Median.{median_of}
-use Rattle.onsets.specs.Weighted.{weighted_at, weighted_medians}
-use Rattle.onsets.proofs.Emptied.{Emptied, emptied-start, emptied-again, written_back}
+use Rattle.onsets.specs.Weighted.{weighted_medians}
+use Rattle.onsets.proofs.Emptied.{emptied-start, emptied-again, written_back}
 use Rattle.onsets.proofs.weighted.medians_by_weights.Goals as goal
 
 pub loop-bin-init : goal.loop-bin-init

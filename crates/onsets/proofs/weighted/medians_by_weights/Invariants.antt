@@ -1,16 +1,10 @@
 -- A bin a turn; the work numbers end zeroed each time.
-use borrow.Author.Rules.{rules}
-use mathlib.Core.Path.{refl, ap, ◌∙◌}
-use native.Mathlib.Omega.{arith}
 use Prim.Native.Nat.{ℕ, ◌≤◌, ◌-◌}
-use mathlib.Core.List.{List}
-use lib.Ieee.{Float}
-use lib.ListN.{take}
 use Rattle.laws.specs.Front.{list}
-use Rattle.laws.proofs.Front.{Filled, filled-start, filled_more, filled-whole}
+use Rattle.laws.proofs.Front.{Filled}
 use Rattle.medians.specs.Median.{median_of}
-use Rattle.onsets.specs.Weighted.{weighted_at, weighted_medians}
-use Rattle.onsets.proofs.Emptied.{Emptied, emptied-start, emptied-again, written_back}
+use Rattle.onsets.specs.Weighted.{weighted_at}
+use Rattle.onsets.proofs.Emptied.{Emptied}
 use Rattle.onsets.proofs.weighted.medians_by_weights.Given as goal
 
 abbrev pub invariant-loop-bin : goal.invariant-loop-bin

@@ -1,9 +1,7 @@
 -- The work numbers are written from the front, a frame a turn.
 use native.Mathlib.Omega.{arith}
-use Prim.Native.Nat.{◌≤◌, ◌-◌}
-use Rattle.laws.proofs.Front.{Filled, filled-start, filled_more, filled-to}
+use Rattle.laws.proofs.Front.{filled-start, filled_more, filled-to}
 use Rattle.onsets.specs.Weighted.{weighted_at}
-use borrow.Author.Rules.{rules}
 use Rattle.onsets.proofs.weighted.weigh_bin.Goals as goal
 
 pub loop-j-init : goal.loop-j-init

@@ -1,6 +1,5 @@
 -- A weight that was kept, or found again.
 use Rattle.onsets.proofs.Weighing.{read_at}
-use borrow.Author.Rules.{rules}
 use Rattle.onsets.proofs.weighted.weight_from.Goals as goal
 
 pub returns-then-j-weights : goal.returns-then-j-weights

@@ -2,7 +2,6 @@
 use mathlib.Core.Path.{sym}
 use Rattle.onsets.specs.Onsets.{weight_at}
 use Rattle.onsets.proofs.Weighing.{kept-long, kept_back}
-use borrow.Author.Rules.{rules}
 use Rattle.onsets.proofs.weighted.weighted_medians.Goals as goal
 
 pub slice_bounds-medians_by_weights-end : goal.slice_bounds-medians_by_weights-end

@@ -1,5 +1,4 @@
 -- The callees' definitions, put together.
-use borrow.Author.Rules.{rules}
 use Rattle.onsets.specs.Onsets.{onset_weight}
 use Rattle.onsets.proofs.weights.onset_weight.Goals as goal
 

@@ -1,7 +1,6 @@
 -- The callee's definition, put in.
 use lib.Ieee.{of_bits}
 use Rattle.onsets.specs.Onsets.{rise_weight}
-use borrow.Author.Rules.{rules}
 use Rattle.onsets.proofs.weights.rise_weight.Goals as goal
 
 pub returns : goal.returns

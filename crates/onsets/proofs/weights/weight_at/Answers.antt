@@ -1,5 +1,4 @@
 -- The first frame has no frame before it.
-use borrow.Author.Rules.{rules}
 use lib.Ieee.{of_bits}
 use borrow.Author.Tests.{eq-eqb, ne_eqb}
 use Rattle.onsets.specs.Onsets.{weight_at}

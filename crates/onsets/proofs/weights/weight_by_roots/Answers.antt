@@ -1,7 +1,6 @@
 -- The first frame has no frame before it.
 use borrow.Author.Tests.{eq-eqb, ne_eqb}
 use lib.Ieee.{of_bits}
-use borrow.Author.Rules.{rules}
 use Rattle.onsets.proofs.weights.weight_by_roots.Goals as goal
 
 pub returns-then-j-eq0 : goal.returns-then-j-eq0

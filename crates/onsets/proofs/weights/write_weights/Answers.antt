@@ -1,15 +1,13 @@
 -- A frame a turn, with the root of the energy before it at hand.
 use mathlib.Core.Path.{◌≡◌, ap, ◌∙◌}
-use Prim.Native.Nat.{ℕ, ◌+◌, ◌-◌, ◌<◌, ◌≤◌}
+use Prim.Native.Nat.{ℕ, ◌+◌, ◌-◌}
 use native.Mathlib.Nat.{not-suc-le-zero}
 use native.Mathlib.Omega.{arith}
 use lib.ListN.{get_or}
 use lib.Ieee.{nan}
-use Rattle.laws.proofs.Front.{Filled, filled-start, filled_more, filled-to}
+use Rattle.laws.proofs.Front.{filled-start, filled_more, filled-to}
 use Rattle.roots.specs.Root.{root_of}
-use Rattle.onsets.specs.Onsets.{weight_at}
 use Rattle.onsets.proofs.Weighing.{carried}
-use borrow.Author.Rules.{rules}
 use Rattle.onsets.proofs.weights.write_weights.Goals as goal
 
 pub loop-j-init : goal.loop-j-init

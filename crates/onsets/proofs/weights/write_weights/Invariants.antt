@@ -1,15 +1,11 @@
 -- A frame a turn, with the root of the energy before it at hand.
-use mathlib.Core.Path.{◌≡◌, ap, ◌∙◌}
-use Prim.Native.Nat.{ℕ, ◌+◌, ◌-◌, ◌<◌, ◌≤◌}
-use native.Mathlib.Nat.{not-suc-le-zero}
-use native.Mathlib.Omega.{arith}
+use mathlib.Core.Path.{◌≡◌}
+use Prim.Native.Nat.{◌-◌, ◌<◌, ◌≤◌}
 use lib.ListN.{get_or}
 use lib.Ieee.{nan}
-use Rattle.laws.proofs.Front.{Filled, filled-start, filled_more, filled-to}
+use Rattle.laws.proofs.Front.{Filled}
 use Rattle.roots.specs.Root.{root_of}
 use Rattle.onsets.specs.Onsets.{weight_at}
-use Rattle.onsets.proofs.Weighing.{carried}
-use borrow.Author.Rules.{rules}
 use Rattle.onsets.proofs.weights.write_weights.Given as goal
 
 abbrev pub invariant-loop-j : goal.invariant-loop-j

@@ -1,9 +1,6 @@
 -- The loop's invariant: the search goes on from segment i.
-use Prim.Native.Nat.{ℕ, ◌-◌}
-use lib.ListN.{length}
-use borrow.Author.Rules.{rules}
-use Rattle.card.proofs.Judged.{Judging, judging-start, judging-more, judging-out, judging-end}
-use Rattle.card.specs.declared.layout.Segment.{Segment}
+use Prim.Native.Nat.{◌-◌}
+use Rattle.card.proofs.Judged.{Judging}
 use Rattle.card_form.specs.Rows.{row_at}
 use Rattle.packed_cards.proofs.judge.first_broken.Given as goal
 

@@ -1,14 +1,8 @@
 -- The loop's invariant: the search goes on from i, and `previous` is where segment i has to start.
-use mathlib.Core.Path.{◌≡◌, refl, sym, ap, ◌∙◌}
-use mathlib.Core.Bool.{not}
+use mathlib.Core.Path.{◌≡◌}
 use Prim.Native.Nat.{ℕ, ◌-◌, ◌≤◌}
-use native.Mathlib.Numerals.{add-one}
-use native.Mathlib.Omega.{arith}
-use lib.Dec.{eqb}
-use lib.ListN.{length, get_or}
-use borrow.Author.Rules.{rules}
+use lib.ListN.{get_or}
 use Rattle.laws.specs.First.{first}
-use Rattle.laws.proofs.First.{first_start, first-again, first_out, first-end}
 use Rattle.card.specs.Rules.{before}
 use Rattle.packed_cards.specs.Packed.{packed_gap_at, first_packed_gap}
 use Rattle.packed_cards.proofs.judge.first_gap.Given as goal

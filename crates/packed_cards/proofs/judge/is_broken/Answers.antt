@@ -1,13 +1,9 @@
 -- The header is judged first, then the segments one after the other.
 use mathlib.Core.Path.{◌≡◌}
 use mathlib.Core.Bool.{Bool}
-use Prim.Native.Nat.{ℕ}
 use lib.ListN.{length}
-use borrow.Author.Rules.{rules}
 use Rattle.laws.proofs.Table.{told}
 use Rattle.card.specs.Rules.{header_broken}
-use Rattle.card.specs.declared.layout.Header.{Header}
-use Rattle.card.specs.declared.layout.Segment.{Segment}
 use Rattle.card_form.proofs.Broken.{by-header, by-segments}
 use Rattle.card_form.specs.Rows.{row_at}
 use Rattle.packed_cards.proofs.judge.is_broken.Goals as goal

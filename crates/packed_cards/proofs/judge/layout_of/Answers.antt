@@ -1,12 +1,11 @@
 -- Lists that belong together and leave no gap are tried with each layout, in their order.
 use mathlib.Core.Path.{◌≡◌, ap}
 use mathlib.Core.Bool.{false, not}
-use borrow.Author.Rules.{rules}
 use Rattle.laws.proofs.Table.{told}
 use Rattle.card.specs.Rules.{layout_for}
 use Rattle.card.specs.declared.layout.FoundLayout.{FoundLayout}
 use Rattle.card.proofs.Chosen.{kept-first, kept_second, kept-nowhere}
-use Rattle.card_form.proofs.Broken.{Asked, Unequal, meant, layout_asked, equal-lengths, by_lengths, by-gap, by_layout}
+use Rattle.card_form.proofs.Broken.{Unequal, meant, layout_asked, equal-lengths, by_lengths, by-gap, by_layout}
 use Rattle.card_form.specs.Rows.{lent_card_rows}
 use Rattle.packed_cards.specs.Packed.{packed_layout}
 use Rattle.packed_cards.proofs.Packed.{asked}

@@ -1,6 +1,5 @@
 -- Each number fits a wider type.
 use native.Mathlib.Omega.{arith}
-use borrow.Author.Rules.{rules}
 use Rattle.packed_cards.proofs.rows.row_at.Goals as goal
 
 pub overflow_cast-result : goal.overflow_cast-result

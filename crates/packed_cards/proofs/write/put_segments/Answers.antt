@@ -1,11 +1,8 @@
 -- The loop's invariant: the first i segments have been put.
-use Prim.Native.Nat.{ℕ, ◌-◌}
 use native.Mathlib.Omega.{arith}
 use lib.ListN.{length}
-use borrow.Author.Rules.{rules}
-use Rattle.card.specs.declared.layout.Segment.{Segment}
 use Rattle.card_form.specs.Rows.{row_at}
-use Rattle.card_pen.proofs.Puts.{Putting, putting-start, putting-room, putting-more, putting-end}
+use Rattle.card_pen.proofs.Puts.{putting-start, putting-room, putting-more, putting-end}
 use Rattle.packed_cards.proofs.write.put_segments.Goals as goal
 
 pub loop-i-init : goal.loop-i-init

@@ -1,8 +1,5 @@
 -- A pen puts the header, the segments and the filler.
-use Prim.Native.Nat.{ℕ}
 use lib.ListN.{length}
-use borrow.Author.Rules.{rules}
-use Rattle.card.specs.declared.layout.Segment.{Segment}
 use Rattle.card_form.specs.Rows.{row_at}
 use Rattle.card_pen.proofs.Puts.{can-start, can-put, can-end, size-put, card-put}
 use Rattle.packed_cards.proofs.write.write_card.Goals as goal

@@ -1,7 +1,6 @@
 -- A law for each answer of the run.
-use borrow.Author.Rules.{rules}
-use Rattle.calls.specs.Call.{Call, given}
-use Rattle.rooms.specs.Lent.{Lent, lent_all}
+use Rattle.calls.specs.Call.{given}
+use Rattle.rooms.specs.Lent.{lent_all}
 use Rattle.positions.proofs.Positions.{stocked-so, not-finite-so, all_so}
 use Rattle.positions.proofs.run.analyse_positions.Goals as goal
 

@@ -1,5 +1,4 @@
 -- The leaf where the frames are there.
-use borrow.Author.Rules.{rules}
 use borrow.Author.Tests.{lt-ltb, le-ltb}
 use mathlib.Core.Path.{refl}
 use lib.Ieee.{of_bits}

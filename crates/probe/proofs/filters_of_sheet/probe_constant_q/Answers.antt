@@ -1,5 +1,4 @@
 -- The leaf where centre and lists fit.
-use borrow.Author.Rules.{rules}
 use mathlib.Core.Path.{◌≡◌, refl, ◌∙◌, ap}
 use borrow.Author.Tests.{leb-true, eq-eqb, ne_eqb}
 use lib.Dec.{leb}
@@ -7,7 +6,7 @@ use lib.ListN.{length}
 use lib.Ieee.{of_bits}
 use Rattle.probe.proofs.Fitting.{both-passed, not-both, first-passed, rows-fitting}
 use Rattle.probe.specs.Filters.{rows_fit}
-use mathlib.Core.Bool.{Bool, true, ◌&&◌, not}
+use mathlib.Core.Bool.{true, ◌&&◌, not}
 use mathlib.Core.Path.{sym}
 use Rattle.probe.proofs.filters_of_sheet.probe_constant_q.Goals as goal
 

@@ -1,5 +1,4 @@
 -- The leaf where frame and lists fit.
-use borrow.Author.Rules.{rules}
 use mathlib.Core.Path.{◌≡◌, refl, ap}
 use borrow.Author.Tests.{leb-true}
 use lib.ListN.{length}

@@ -1,5 +1,4 @@
 -- The leaf where frame, rows and room fit.
-use borrow.Author.Rules.{rules}
 use mathlib.Core.Path.{◌≡◌, refl, ap}
 use mathlib.Core.Bool.{true, ◌&&◌, not}
 use borrow.Author.Tests.{leb-true}

@@ -1,6 +1,5 @@
 -- The callees' definitions, put together.
 use mathlib.Core.Path.{◌∙◌}
-use borrow.Author.Rules.{rules}
 use Rattle.probe.proofs.keys_by_number.probe_are_relative_keys.Goals as goal
 
 pub returns : goal.returns

@@ -1,6 +1,5 @@
 -- The callees' definitions, put together.
 use mathlib.Core.Path.{◌∙◌}
-use borrow.Author.Rules.{rules}
 use Rattle.probe.proofs.keys_by_number.probe_key_number.Goals as goal
 
 pub returns : goal.returns

@@ -1,5 +1,4 @@
 -- The leaf where the values are there.
-use borrow.Author.Rules.{rules}
 use borrow.Author.Tests.{ltb-false, eqb-false}
 use mathlib.Core.Path.{◌≡◌, refl}
 use mathlib.Core.Bool.{false}

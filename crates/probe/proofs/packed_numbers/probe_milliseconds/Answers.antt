@@ -1,5 +1,4 @@
 -- The leaf's number.
-use borrow.Author.Rules.{rules}
 use mathlib.Core.Path.{ap, ◌∙◌}
 use Rattle.probe.specs.Packed.{number_of}
 use Rattle.probe.proofs.packed_numbers.probe_milliseconds.Goals as goal

@@ -1,6 +1,5 @@
 -- Past the guard there is room for all that is located.
 use mathlib.Core.Bool.{not}
-use borrow.Author.Rules.{rules}
 use mathlib.Core.Path.{refl, ap}
 use Rattle.timeline.specs.inside.Estimates.{estimate_rows}
 use Rattle.timeline.specs.inside.Segments.{segment_rows}

@@ -1,8 +1,6 @@
 -- A number a turn, joined to those before.
-use borrow.Author.Rules.{rules}
 use native.Mathlib.Omega.{arith}
-use Prim.Native.Nat.{◌≤◌, ◌-◌}
-use mathlib.Core.Path.{◌≡◌, refl}
+use mathlib.Core.Path.{refl}
 use Rattle.laws.specs.Every.{every}
 use Rattle.laws.proofs.Every.{every_more, every-all}
 use Rattle.probe_segments.specs.Segments.{is_number}

@@ -1,10 +1,7 @@
 -- A number a turn, joined to those before.
-use borrow.Author.Rules.{rules}
-use native.Mathlib.Omega.{arith}
 use Prim.Native.Nat.{◌≤◌, ◌-◌}
-use mathlib.Core.Path.{◌≡◌, refl}
+use mathlib.Core.Path.{◌≡◌}
 use Rattle.laws.specs.Every.{every}
-use Rattle.laws.proofs.Every.{every_more, every-all}
 use Rattle.probe_segments.specs.Segments.{is_number}
 use Rattle.probe_segments.proofs.segments_of_rows.all_numbers.Given as goal
 

@@ -1,5 +1,4 @@
 -- An arm for each answer.
-use borrow.Author.Rules.{rules}
 use lib.Ieee.{of_bits}
 use Rattle.probe_segments.proofs.segments_of_rows.answer_of.Goals as goal
 

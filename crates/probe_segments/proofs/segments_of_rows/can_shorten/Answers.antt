@@ -1,5 +1,4 @@
 -- Both tests.
-use borrow.Author.Rules.{rules}
 use Rattle.probe_segments.proofs.segments_of_rows.can_shorten.Goals as goal
 
 pub returns : goal.returns

@@ -1,7 +1,6 @@
 -- The sum so far, or 2^32 where it has come to that.
-use borrow.Author.Rules.{rules}
 use mathlib.Core.Path.{◌≡◌, refl, ap, ◌∙◌}
-use Prim.Native.Nat.{ℕ, ◌-◌, ◌≤◌, min}
+use Prim.Native.Nat.{ℕ, min}
 use native.Mathlib.Omega.{arith}
 use Rattle.probe_segments.specs.Segments.{counts_upto}
 use Rattle.probe_segments.proofs.Segmenting.{held_below, counts-more}

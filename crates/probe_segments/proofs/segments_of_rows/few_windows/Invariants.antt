@@ -1,10 +1,7 @@
 -- The sum so far, or 2^32 where it has come to that.
-use borrow.Author.Rules.{rules}
-use mathlib.Core.Path.{◌≡◌, refl, ap, ◌∙◌}
-use Prim.Native.Nat.{ℕ, ◌-◌, ◌≤◌, min}
-use native.Mathlib.Omega.{arith}
+use mathlib.Core.Path.{◌≡◌}
+use Prim.Native.Nat.{◌-◌, ◌≤◌, min}
 use Rattle.probe_segments.specs.Segments.{counts_upto}
-use Rattle.probe_segments.proofs.Segmenting.{held_below, counts-more}
 use Rattle.probe_segments.proofs.segments_of_rows.few_windows.Given as goal
 
 abbrev pub invariant-loop-i : goal.invariant-loop-i

@@ -1,6 +1,5 @@
 -- Past both guards the estimates fit and all keys are numbers.
 use mathlib.Core.Bool.{not}
-use borrow.Author.Rules.{rules}
 use mathlib.Core.Path.{refl, ap}
 use Rattle.timeline.specs.inside.Estimates.{columns}
 use Rattle.timeline.specs.inside.Segments.{segment_rows}

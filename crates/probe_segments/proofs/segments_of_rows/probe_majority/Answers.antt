@@ -1,5 +1,4 @@
 -- The leaf where each number is a key's.
-use borrow.Author.Rules.{rules}
 use mathlib.Core.Path.{◌≡◌, sym, subst, ◌∙◌}
 use mathlib.Core.Bool.{true}
 use lib.Dec.{T}

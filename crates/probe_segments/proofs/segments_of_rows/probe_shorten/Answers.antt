@@ -1,6 +1,5 @@
 -- Past the guard all keys are numbers and the counts fit.
 use mathlib.Core.Bool.{not}
-use borrow.Author.Rules.{rules}
 use mathlib.Core.Path.{refl, ap}
 use Rattle.timeline.specs.inside.Segments.{segment_rows}
 use Rattle.probe_segments.proofs.Segmenting.{not-shortened, shorten-needs, shortened}

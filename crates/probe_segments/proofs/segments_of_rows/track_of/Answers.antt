@@ -1,5 +1,4 @@
 -- What the calls ensure, put together.
-use borrow.Author.Rules.{rules}
 use Rattle.probe_segments.proofs.segments_of_rows.track_of.Goals as goal
 
 pub returns : goal.returns

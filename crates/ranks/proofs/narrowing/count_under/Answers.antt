@@ -1,11 +1,7 @@
 -- A value a turn; no more are counted than were seen.
-use Prim.Native.Nat.{◌≤◌, ◌-◌}
-use mathlib.Core.Path.{◌≡◌}
 use native.Mathlib.Omega.{arith}
-use Rattle.laws.specs.Turns.{turns}
 use Rattle.laws.proofs.Turns.{turns-start, turns-again, turns-end}
-use Rattle.ranks.specs.inside.Narrow.{under_turn, count_under}
-use borrow.Author.Rules.{rules}
+use Rattle.ranks.specs.inside.Narrow.{count_under}
 use Rattle.ranks.proofs.narrowing.count_under.Goals as goal
 
 pub loop-i-init : goal.loop-i-init

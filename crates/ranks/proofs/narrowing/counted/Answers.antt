@@ -2,7 +2,6 @@
 use mathlib.Core.Path.{sym, subst, ◌∙◌}
 use lib.Dec.{T}
 use Rattle.ranks.proofs.Under.{count-under-is}
-use borrow.Author.Rules.{rules}
 use Rattle.ranks.proofs.narrowing.counted.Goals as goal
 
 pub returns : goal.returns

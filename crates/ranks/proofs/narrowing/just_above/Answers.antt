@@ -3,7 +3,6 @@ use mathlib.Core.Path.{subst, sym}
 use lib.Dec.{T}
 use lib.Ieee.{Float, lt, of_bits}
 use Rattle.ranks.specs.inside.Narrow.{divides}
-use borrow.Author.Rules.{rules}
 use Rattle.ranks.proofs.narrowing.just_above.Goals as goal
 
 pub dividing-requires : goal.dividing-requires

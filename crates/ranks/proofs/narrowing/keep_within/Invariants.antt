@@ -1,9 +1,7 @@
 -- A value a turn: it is written behind those kept, and stays where it passes the test.
 use Prim.Native.Nat.{◌≤◌, ◌-◌}
-use native.Mathlib.Omega.{arith}
 use Rattle.ranks.specs.inside.Narrow.{within}
-use Rattle.ranks.proofs.Moved.{Moved, moved-start, moved-kept, moved-passed, moved-end}
-use borrow.Author.Rules.{rules}
+use Rattle.ranks.proofs.Moved.{Moved}
 use Rattle.ranks.proofs.narrowing.keep_within.Given as goal
 
 abbrev pub invariant-loop-i : goal.invariant-loop-i

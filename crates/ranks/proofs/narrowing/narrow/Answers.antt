@@ -1,7 +1,6 @@
 -- Nothing goes, or what lies outside two bounds with the rank between their counts.
 use native.Mathlib.Omega.{arith}
 use Rattle.ranks.proofs.Kept.{counted-apart, sought-among, narrowed-among}
-use borrow.Author.Rules.{rules}
 use Rattle.ranks.proofs.narrowing.narrow.Goals as goal
 
 pub overflow_sub-result-2 : goal.overflow_sub-result-2

@@ -1,9 +1,6 @@
 -- The places of the sample lie among the first values.
-use mathlib.Core.Path.{◌≡◌, refl}
-use Prim.Native.Nat.{ℕ, ◌*◌, ◌/◌, ◌≤◌, ◌<◌, ◌-◌}
-use native.Mathlib.Nat.{mul-le-mul_right}
-use native.Mathlib.Omega.{arith}
-use borrow.Author.Rules.{rules}
+use mathlib.Core.Path.{◌≡◌}
+use Prim.Native.Nat.{◌/◌, ◌≤◌, ◌-◌}
 use Rattle.ranks.proofs.narrowing.pivots_around.Given as goal
 
 abbrev pub invariant-loop-k : goal.invariant-loop-k

@@ -1,10 +1,8 @@
 -- Whatever is picked, what is returned divides.
 use mathlib.Core.Path.{sym, subst}
-use Prim.Native.Nat.{◌≤◌, ◌-◌}
 use lib.Dec.{T}
 use lib.Ieee.{Float, lt, of_bits}
 use Rattle.ranks.specs.inside.Narrow.{divides}
-use borrow.Author.Rules.{rules}
 use Rattle.ranks.proofs.narrowing.pivots_in.Goals as goal
 
 pub dividing-requires : goal.dividing-requires

@@ -3,7 +3,6 @@ use mathlib.Core.Path.{sym, subst}
 use lib.Dec.{T}
 use lib.Ieee.{Float, lt, of_bits}
 use Rattle.ranks.specs.inside.Narrow.{divides}
-use borrow.Author.Rules.{rules}
 use Rattle.ranks.proofs.narrowing.stretch_around.Goals as goal
 
 pub counted-requires : goal.counted-requires

@@ -1,7 +1,6 @@
 -- Each return is a branch of the definition.
 use borrow.Author.Tests.{lt-ltb, le-ltb}
 use Rattle.ranks.specs.inside.Search.{pattern_of_key}
-use borrow.Author.Rules.{rules}
 use Rattle.ranks.proofs.values.pattern_of_key.Goals as goal
 
 pub returns-then-key-lt2147483648 : goal.returns-then-key-lt2147483648

@@ -2,7 +2,6 @@
 use mathlib.Core.Path.{ap, ◌∙◌}
 use lib.Ieee.{binary32, of_bits}
 use Rattle.ranks.specs.inside.Search.{value_of_key}
-use borrow.Author.Rules.{rules}
 use Rattle.ranks.proofs.values.value_of_key.Goals as goal
 
 pub returns : goal.returns

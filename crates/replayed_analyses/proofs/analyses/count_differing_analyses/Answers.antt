@@ -2,9 +2,9 @@
 use mathlib.Core.Bool.{not}
 use borrow.Author.Rules.{rules}
 use Rattle.replayed_analyses.proofs.Calls.{record-there}
-use mathlib.Core.Path.{◌≡◌, ap, ◌∙◌}
+use mathlib.Core.Path.{ap, ◌∙◌}
 use native.Mathlib.Omega.{arith}
-use Prim.Native.Nat.{ℕ, ◌≤◌, ◌-◌}
+use Prim.Native.Nat.{ℕ}
 use Rattle.laws.specs.Turns.{turns}
 use Rattle.laws.proofs.Table.{told-not}
 use Rattle.laws.proofs.Turns.{turns-start, turns-again, turns-end}

@@ -1,13 +1,8 @@
 -- A record a turn; no more differ than were read.
-use borrow.Author.Rules.{rules}
-use Rattle.replayed_analyses.proofs.Calls.{record-there}
-use mathlib.Core.Path.{◌≡◌, ap, ◌∙◌}
-use native.Mathlib.Omega.{arith}
-use Prim.Native.Nat.{ℕ, ◌≤◌, ◌-◌}
+use mathlib.Core.Path.{◌≡◌}
+use Prim.Native.Nat.{◌≤◌, ◌-◌}
 use Rattle.laws.specs.Turns.{turns}
-use Rattle.laws.proofs.Table.{told-not}
-use Rattle.laws.proofs.Turns.{turns-start, turns-again, turns-end}
-use Rattle.replayed_analyses.specs.Analyses.{record_turn, differing}
+use Rattle.replayed_analyses.specs.Analyses.{record_turn}
 use Rattle.replayed_analyses.proofs.analyses.count_differing_analyses.Given as goal
 
 abbrev pub invariant-loop-n : goal.invariant-loop-n

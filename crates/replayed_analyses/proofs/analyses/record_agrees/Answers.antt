@@ -1,5 +1,4 @@
 -- The arrays are read, and the call that they make is compared.
-use borrow.Author.Rules.{rules}
 use Rattle.replayed_analyses.proofs.Calls.{call-judged}
 use mathlib.Core.Path.{◌∙◌}
 use Rattle.replayed_analyses.proofs.analyses.record_agrees.Goals as goal

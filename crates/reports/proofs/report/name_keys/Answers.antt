@@ -1,5 +1,4 @@
 -- The alternate is that beside the reported key, and both are answered.
-use borrow.Author.Rules.{rules}
 use mathlib.Core.Path.{ap, ◌∙◌}
 use Rattle.keys.specs.declared.Key.{Key}
 use Rattle.keys.specs.Numbers.{key_number}

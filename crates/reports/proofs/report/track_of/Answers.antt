@@ -1,5 +1,4 @@
 -- Each number is where the definition has it, the minimum widened.
-use borrow.Author.Rules.{rules}
 use mathlib.Core.Path.{ap}
 use lib.Ieee.{Float}
 use Rattle.reports.specs.inside.Rows.{track_of}

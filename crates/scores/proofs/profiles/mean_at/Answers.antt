@@ -1,5 +1,4 @@
 -- The code's table of means is the definition's, which has the profiles' means.
-use borrow.Author.Rules.{rules}
 use Rattle.scores.specs.inside.Constants.{means}
 use Rattle.scores.proofs.Constants.{constants-of-profiles}
 use Rattle.scores.proofs.profiles.mean_at.Goals as goal

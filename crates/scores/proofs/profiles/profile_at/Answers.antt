@@ -1,5 +1,4 @@
 -- The code's table of profiles is the definition's.
-use borrow.Author.Rules.{rules}
 use mathlib.Core.Path.{refl}
 use Rattle.scores.specs.Profiles.{profiles, profile_at}
 use Rattle.scores.proofs.profiles.profile_at.Goals as goal

@@ -2,10 +2,8 @@
 use borrow.Author.Rules.{rules}
 use mathlib.Core.Path.{refl}
 use native.Mathlib.Omega.{arith}
-use Prim.Native.Nat.{ℕ, ◌≤◌, ◌<◌, ◌-◌}
-use lib.ListN.{get_or}
-use lib.Ieee.{nan}
-use Rattle.laws.proofs.Front.{Filled, filled-start, filled_more, filled-whole}
+use Prim.Native.Nat.{◌<◌}
+use Rattle.laws.proofs.Front.{filled-start, filled_more, filled-whole}
 use Rattle.scores.specs.inside.Constants.{energy_places, place_at}
 use Rattle.scores.specs.inside.Modes.{divisors_at}
 use Rattle.scores.proofs.Constants.{constants-of-profiles}

@@ -1,14 +1,8 @@
 -- The array is written from the front, a divisor a turn; the code's places are the definition's.
-use borrow.Author.Rules.{rules}
-use mathlib.Core.Path.{refl}
-use native.Mathlib.Omega.{arith}
-use Prim.Native.Nat.{ℕ, ◌≤◌, ◌<◌, ◌-◌}
+use Prim.Native.Nat.{ℕ, ◌≤◌, ◌-◌}
 use lib.ListN.{get_or}
 use lib.Ieee.{nan}
-use Rattle.laws.proofs.Front.{Filled, filled-start, filled_more, filled-whole}
-use Rattle.scores.specs.inside.Constants.{energy_places, place_at}
-use Rattle.scores.specs.inside.Modes.{divisors_at}
-use Rattle.scores.proofs.Constants.{constants-of-profiles}
+use Rattle.laws.proofs.Front.{Filled}
 use Rattle.scores.proofs.scoring.divisors_at.Given as goal
 
 abbrev pub invariant-loop-root : goal.invariant-loop-root

@@ -1,14 +1,9 @@
 -- The array is written from the front, a divisor a turn, and each is asked; the code's energies are the definition's.
-use borrow.Author.Rules.{rules}
 use mathlib.Core.Path.{◌≡◌, refl, ap, ◌∙◌}
 use native.Mathlib.Omega.{arith}
-use Prim.Native.Nat.{ℕ, ◌≤◌, ◌-◌}
-use lib.ListN.{get_or}
-use lib.Ieee.{nan}
 use Rattle.laws.specs.Every.{any_below}
 use Rattle.laws.proofs.Every.{any-more}
-use Rattle.laws.proofs.Front.{Filled, filled-start, filled_more, filled-whole}
-use Rattle.correlations.specs.inside.Divisors.{divisor_of}
+use Rattle.laws.proofs.Front.{filled-start, filled_more, filled-whole}
 use Rattle.scores.specs.inside.Constants.{energies}
 use Rattle.scores.specs.inside.Modes.{divisors_of}
 use Rattle.scores.proofs.scoring.divisors_for.Goals as goal

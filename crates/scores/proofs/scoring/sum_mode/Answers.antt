@@ -1,10 +1,6 @@
 -- A profile a turn.
-use borrow.Author.Rules.{rules}
-use mathlib.Core.Path.{◌≡◌}
 use native.Mathlib.Omega.{arith}
-use Prim.Native.Nat.{◌≤◌, ◌-◌}
 use lib.Ieee.{of_bits}
-use Rattle.laws.specs.Turns.{turns}
 use Rattle.laws.proofs.Turns.{turns-start, turns-again, turns-end}
 use Rattle.scores.specs.inside.Modes.{mode_turn, mode_sums}
 use Rattle.scores.proofs.scoring.sum_mode.Goals as goal

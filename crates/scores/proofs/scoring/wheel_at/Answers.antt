@@ -1,5 +1,4 @@
 -- The callees' definitions, put together.
-use borrow.Author.Rules.{rules}
 use Rattle.scores.proofs.scoring.wheel_at.Goals as goal
 
 pub returns : goal.returns

@@ -1,5 +1,4 @@
 -- Groups where there is an estimate, the whole track where there is none.
-use borrow.Author.Rules.{rules}
 use lib.Ieee.{of_bits}
 use Rattle.timeline.specs.inside.Estimates.{columns}
 use Rattle.timeline.specs.inside.Segments.{segment_rows}

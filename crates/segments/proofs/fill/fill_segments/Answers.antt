@@ -1,5 +1,4 @@
 -- The rows that hold the cut segments are shortened as the segments are.
-use borrow.Author.Rules.{rules}
 use Rattle.timeline.specs.inside.Estimates.{columns, estimates_in}
 use Rattle.timeline.specs.inside.Segments.{segment_rows}
 use Rattle.segments.specs.inside.Fill.{cut_of, filled_of}

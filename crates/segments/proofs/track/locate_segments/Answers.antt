@@ -1,5 +1,4 @@
 -- What the run over the windows leaves is filled into segments.
-use borrow.Author.Rules.{rules}
 use Rattle.timeline.specs.inside.Estimates.{estimate_rows}
 use Rattle.timeline.specs.inside.Segments.{segment_rows}
 use Rattle.gathering.specs.Gather.{heard}

@@ -1,15 +1,11 @@
 -- A byte a turn, joined to those before.
-use borrow.Author.Rules.{rules}
-use mathlib.Core.Path.{◌≡◌, refl}
+use mathlib.Core.Path.{◌≡◌}
 use mathlib.Core.Bool.{Bool}
 use mathlib.Core.List.{List}
 use Prim.Native.Nat.{ℕ, ◌-◌, ◌≤◌}
-use native.Mathlib.Omega.{arith}
 use lib.Dec.{eqb}
 use lib.ListN.{length, get_or}
-use Rattle.laws.specs.Every.{every, every_entry}
-use Rattle.laws.proofs.Every.{every_more, every-all}
-use Rattle.set_places.specs.Places.{all_zero}
+use Rattle.laws.specs.Every.{every}
 use Rattle.set_places.proofs.bytes.all_zero.Given as goal
 
 -- byte k is 0

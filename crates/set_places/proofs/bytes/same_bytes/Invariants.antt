@@ -1,12 +1,9 @@
 -- A byte a turn, joined to those before.
-use borrow.Author.Rules.{rules}
-use mathlib.Core.Path.{◌≡◌, refl}
+use mathlib.Core.Path.{◌≡◌}
 use Prim.Native.Nat.{◌-◌, ◌≤◌}
-use native.Mathlib.Omega.{arith}
 use lib.ListN.{length}
 use Rattle.laws.specs.Every.{every}
-use Rattle.laws.proofs.Every.{every_more, every-all}
-use Rattle.laws.proofs.Same.{same_at, as_long}
+use Rattle.laws.proofs.Same.{same_at}
 use Rattle.set_places.proofs.bytes.same_bytes.Given as goal
 
 abbrev pub invariant-loop-i : goal.invariant-loop-i

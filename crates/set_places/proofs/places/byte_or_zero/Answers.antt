@@ -1,5 +1,4 @@
 -- Behind the last byte stands what is read there.
-use borrow.Author.Rules.{rules}
 use mathlib.Core.Path.{sym}
 use Rattle.set_places.proofs.Zeros.{get_d_beyond}
 use Rattle.set_places.proofs.places.byte_or_zero.Goals as goal

@@ -1,9 +1,8 @@
 -- Byte after byte from the front of the place.
-use borrow.Author.Rules.{rules}
 use mathlib.Core.Path.{sym, subst, ◌∙◌}
-use Prim.Native.Nat.{ℕ, ◌+◌, ◌-◌, ◌≤◌}
+use Prim.Native.Nat.{ℕ, ◌+◌}
 use native.Mathlib.Omega.{arith}
-use lib.ListN.{length, get_or, set}
+use lib.ListN.{get_or, set}
 use Rattle.laws.proofs.Front.{Filled, filled-start, filled_more, filled-whole}
 use Rattle.set_places.specs.Places.{place_size}
 use Rattle.set_places.proofs.Zeros.{filled-in-place}

@@ -1,16 +1,13 @@
 -- A search that is left where a place holds the card.
-use borrow.Author.Rules.{rules}
 use mathlib.Core.Path.{◌≡◌, ap, ◌∙◌}
-use mathlib.Core.Bool.{Bool}
 use mathlib.Core.List.{List}
-use Prim.Native.Nat.{ℕ, ◌-◌, ◌≤◌}
+use Prim.Native.Nat.{ℕ}
 use native.Mathlib.Omega.{arith}
 use lib.ListN.{length}
-use Rattle.laws.specs.First.{first}
 use Rattle.laws.proofs.First.{first_start, first-again, first_out, first-end}
 use Rattle.laws.proofs.Table.{told}
 use Rattle.laws.specs.Every.{same_numbers}
-use Rattle.set_places.specs.Places.{places, place_at, in_place, lowest_with}
+use Rattle.set_places.specs.Places.{places, in_place, lowest_with}
 use Rattle.set_places.proofs.Changed.{length-place, part-place}
 use Rattle.set_places.proofs.places.find_place.Invariants.{holding}
 use Rattle.set_places.proofs.places.find_place.Goals as goal

@@ -1,17 +1,11 @@
 -- A search that is left where a place holds the card.
-use borrow.Author.Rules.{rules}
-use mathlib.Core.Path.{◌≡◌, ap, ◌∙◌}
+use mathlib.Core.Path.{◌≡◌}
 use mathlib.Core.Bool.{Bool}
 use mathlib.Core.List.{List}
 use Prim.Native.Nat.{ℕ, ◌-◌, ◌≤◌}
-use native.Mathlib.Omega.{arith}
-use lib.ListN.{length}
 use Rattle.laws.specs.First.{first}
-use Rattle.laws.proofs.First.{first_start, first-again, first_out, first-end}
-use Rattle.laws.proofs.Table.{told}
 use Rattle.laws.specs.Every.{same_numbers}
 use Rattle.set_places.specs.Places.{places, place_at, in_place, lowest_with}
-use Rattle.set_places.proofs.Changed.{length-place, part-place}
 use Rattle.set_places.proofs.places.find_place.Given as goal
 
 -- place i holds the card

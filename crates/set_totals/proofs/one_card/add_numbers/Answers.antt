@@ -1,7 +1,5 @@
 -- The times, and then the two counts behind them.
-use borrow.Author.Rules.{rules}
 use mathlib.Core.Path.{◌≡◌, sym, ap, ap₂, subst, ◌∙◌}
-use mathlib.Core.Bool.{false}
 use mathlib.Core.List.{List}
 use Prim.Native.Nat.{ℕ, ◌+◌, ◌*◌, ◌^◌, ◌<◌, ◌≤◌}
 use native.Mathlib.Omega.{arith}
@@ -9,10 +7,9 @@ use lib.Dec.{eqb}
 use lib.ListN.{length, get_or}
 use Rattle.laws.proofs.Cases.{by-test}
 use Rattle.bits.specs.Bits.{bits_of_bytes}
-use Rattle.card.specs.Layout.{Meaning, most_segments, LayoutFits}
-use Rattle.card.specs.Rules.{no_key, card_broken}
+use Rattle.card.specs.Layout.{most_segments, LayoutFits}
+use Rattle.card.specs.Rules.{no_key}
 use Rattle.card.specs.declared.layout.Header.{Header}
-use Rattle.card.proofs.Known.{Sound}
 use Rattle.card_form.specs.Form.{header_width, meaning_on}
 use Rattle.card_reader.proofs.Ready.{Ready, ready}
 use Rattle.set_totals.specs.Summary.{key_time, keyless_of}

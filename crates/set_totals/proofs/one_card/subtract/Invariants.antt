@@ -1,12 +1,9 @@
 -- A number a turn, from the front.
-use borrow.Author.Rules.{rules}
-use mathlib.Core.Path.{◌≡◌, sym, subst}
 use mathlib.Core.List.{List}
-use Prim.Native.Nat.{ℕ, ◌+◌, ◌-◌, ◌<◌, ◌≤◌}
-use native.Mathlib.Omega.{arith}
-use lib.ListN.{length, get_or, set}
-use Rattle.laws.proofs.Front.{Filled, filled-start, filled_more, filled-rest, filled-whole}
-use Rattle.set_totals.specs.inside.Numbers.{summary_numbers, less}
+use Prim.Native.Nat.{ℕ, ◌-◌, ◌≤◌}
+use lib.ListN.{get_or}
+use Rattle.laws.proofs.Front.{Filled}
+use Rattle.set_totals.specs.inside.Numbers.{summary_numbers}
 use Rattle.set_totals.proofs.one_card.subtract.Given as goal
 
 -- what is left of number k

@@ -1,11 +1,9 @@
 -- The card's own numbers, and then those less.
-use borrow.Author.Rules.{rules}
 use mathlib.Core.Path.{◌≡◌, sym, ap, subst, ◌∙◌}
 use mathlib.Core.List.{List}
 use Prim.Native.Nat.{ℕ}
 use lib.ListN.{length, get_or}
 use Rattle.bits.specs.Bits.{bits_of_bytes}
-use Rattle.card.specs.Layout.{Meaning}
 use Rattle.card_form.specs.Form.{meaning_on}
 use Rattle.set_totals.specs.inside.Numbers.{summary_numbers, card_number, more, less, CanTake}
 use Rattle.set_totals.proofs.Numbers.{zeros, zeros-can, own-can, own-less, more-long, less-long}

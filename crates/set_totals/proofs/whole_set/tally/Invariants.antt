@@ -1,19 +1,13 @@
 -- A place a turn, its numbers added to those of the places before.
-use borrow.Author.Rules.{rules}
-use mathlib.Core.Path.{◌≡◌, refl, sym, ap, ap₂, subst, ◌∙◌}
-use mathlib.Core.Bool.{Bool, ◌||◌}
+use mathlib.Core.Path.{◌≡◌}
+use mathlib.Core.Bool.{Bool}
 use mathlib.Core.List.{List}
 use Prim.Native.Nat.{ℕ, ◌-◌, ◌≤◌}
-use native.Mathlib.Omega.{arith}
-use lib.ListN.{length, length-replicate}
 use Rattle.laws.specs.Every.{any_below}
 use Rattle.laws.specs.Front.{list}
-use Rattle.laws.proofs.Every.{any-more}
-use Rattle.laws.proofs.Front.{length-list}
-use Rattle.set_places.specs.Places.{places, place_at, card_in, read_whole, spoilt, any_spoilt}
-use Rattle.set_places.proofs.Changed.{length-place, part-place}
-use Rattle.set_totals.specs.inside.Numbers.{summary_numbers, read_number, more, CanAdd}
-use Rattle.set_totals.proofs.Tallied.{sum_over, numbers-are, tallied-none, tallied-more, tallied-can}
+use Rattle.set_places.specs.Places.{places, place_at, spoilt}
+use Rattle.set_totals.specs.inside.Numbers.{summary_numbers}
+use Rattle.set_totals.proofs.Tallied.{sum_over}
 use Rattle.set_totals.proofs.whole_set.tally.Given as goal
 
 -- place i is spoilt

@@ -1,5 +1,4 @@
 -- What was found in the place decides.
-use borrow.Author.Rules.{rules}
 use mathlib.Core.Path.{◌≡◌, sym, ap, ◌∙◌}
 use mathlib.Core.Bool.{false, not}
 use mathlib.Core.List.{List}
@@ -10,7 +9,6 @@ use lib.Seq.{take_all, length-take-le}
 use Rattle.laws.proofs.Table.{told}
 use Rattle.bits.specs.Bits.{bits_of_bytes}
 use Rattle.card.specs.Layout.{most_segments}
-use Rattle.card.specs.declared.layout.Layout.{Layout}
 use Rattle.card_form.specs.Form.{meaning_on}
 use Rattle.card_reader.specs.Reading.{judged_of}
 use Rattle.card_reader.specs.declared.judge.CardJudged.TheVariants.{Readable}

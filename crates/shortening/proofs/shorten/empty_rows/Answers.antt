@@ -1,8 +1,5 @@
 -- A row a turn: each law stands in `Empties`.
-use Prim.Native.Nat.{◌-◌}
-use borrow.Author.Rules.{rules}
-use Rattle.timeline.specs.inside.Segments.{segment_rows}
-use Rattle.shortening.proofs.Empties.{Emptying, emptying-start, emptying-more, emptying-end}
+use Rattle.shortening.proofs.Empties.{emptying-start, emptying-more, emptying-end}
 use Rattle.shortening.proofs.shorten.empty_rows.Goals as goal
 
 pub loop-i-init : goal.loop-i-init

@@ -1,8 +1,7 @@
 -- A row a turn: each law stands in `Empties`.
 use Prim.Native.Nat.{◌-◌}
-use borrow.Author.Rules.{rules}
 use Rattle.timeline.specs.inside.Segments.{segment_rows}
-use Rattle.shortening.proofs.Empties.{Emptying, emptying-start, emptying-more, emptying-end}
+use Rattle.shortening.proofs.Empties.{Emptying}
 use Rattle.shortening.proofs.shorten.empty_rows.Given as goal
 
 abbrev pub invariant-loop-i : goal.invariant-loop-i

@@ -1,7 +1,5 @@
 -- A search: each way out of a turn is a law of `Searches`.
-use Prim.Native.Nat.{◌-◌}
-use borrow.Author.Rules.{rules}
-use Rattle.shortening.proofs.Searches.{Searched, searched-start, searched-again, searched-out, searched-end}
+use Rattle.shortening.proofs.Searches.{searched-start, searched-again, searched-out, searched-end}
 use Rattle.shortening.proofs.shorten.first_short.Goals as goal
 
 pub loop-i-init : goal.loop-i-init

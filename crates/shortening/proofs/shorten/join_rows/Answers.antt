@@ -2,7 +2,6 @@
 use mathlib.Core.Path.{◌∙◌}
 use native.Mathlib.Omega.{arith}
 use Rattle.shortening.proofs.Shortens.{in-room, joinable-is, joined_is}
-use borrow.Author.Rules.{rules}
 use Rattle.shortening.proofs.shorten.join_rows.Goals as goal
 
 pub join_segments-requires : goal.join_segments-requires

@@ -1,7 +1,6 @@
 -- Each answer is a law of `Shortens`.
 use mathlib.Core.Bool.{not}
 use mathlib.Core.Path.{ap}
-use borrow.Author.Rules.{rules}
 use Rattle.shortening.proofs.Shortens.{stays-long, stays-first, joins-last, joins-longer}
 use Rattle.shortening.proofs.shorten.joins_back.Goals as goal
 

@@ -1,12 +1,7 @@
 -- Each way out of a turn is a law of `Shortens`.
-use mathlib.Core.Path.{◌≡◌, refl, ◌∙◌}
-use Prim.Native.Nat.{ℕ, ◌+◌, ◌-◌}
-use native.Mathlib.Omega.{arith}
-use Rattle.timeline.specs.Segments.{segments_in, lent_segments}
+use Prim.Native.Nat.{◌+◌, ◌-◌}
 use Rattle.timeline.specs.inside.Segments.{segment_rows}
-use Rattle.shortening.specs.Shorten.{first_short}
-use Rattle.shortening.proofs.Searches.{first-there}
-use Rattle.shortening.proofs.Shortens.{settled-none, taken-few, found-there, Gap, gap-start, now-room, back-two, back-room, back-few, more_room, more-few, gap_back, gap_more, gap-end}
+use Rattle.shortening.proofs.Shortens.{Gap}
 use Rattle.shortening.proofs.shorten.shorten_segments.Given as goal
 
 abbrev pub invariant-loop-done : goal.invariant-loop-done

@@ -1,7 +1,6 @@
 -- Each answer is a law of `Shortens`.
 use native.Mathlib.Omega.{arith}
 use Rattle.shortening.proofs.Shortens.{in-room, joinable-is, takes-joined, takes-next}
-use borrow.Author.Rules.{rules}
 use Rattle.shortening.proofs.shorten.take_in.Goals as goal
 
 pub join_segments-both-requires : goal.join_segments-both-requires

@@ -1,5 +1,4 @@
 -- Two tests of what the calls read, joined.
-use borrow.Author.Rules.{rules}
 use Rattle.splits.specs.Splits.{splits}
 use Rattle.splits.specs.inside.Columns.{splits_in}
 use Rattle.splits.proofs.split.is_split.Goals as goal

@@ -1,13 +1,9 @@
 -- A chroma a turn, joined to those before.
-use borrow.Author.Rules.{rules}
-use mathlib.Core.Path.{◌≡◌, refl}
+use mathlib.Core.Path.{refl}
 use native.Mathlib.Omega.{arith}
-use Prim.Native.Nat.{ℕ, ◌+◌, ◌*◌, ◌≤◌, ◌-◌}
 use Rattle.laws.specs.Every.{every}
 use Rattle.laws.proofs.Every.{every_more, every-all}
-use mathlib.Core.List.{[]}
-use lib.ListN.{length, get_or}
-use Rattle.stored_analyses.specs.Rows.{same_chroma, same_chromas}
+use Rattle.stored_analyses.specs.Rows.{same_chromas}
 use Rattle.stored_analyses.proofs.rows.chromas_agree.Goals as goal
 
 pub loop-i-init : goal.loop-i-init

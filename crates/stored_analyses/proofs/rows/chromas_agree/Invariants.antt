@@ -1,13 +1,10 @@
 -- A chroma a turn, joined to those before.
-use borrow.Author.Rules.{rules}
-use mathlib.Core.Path.{◌≡◌, refl}
-use native.Mathlib.Omega.{arith}
+use mathlib.Core.Path.{◌≡◌}
 use Prim.Native.Nat.{ℕ, ◌+◌, ◌*◌, ◌≤◌, ◌-◌}
 use Rattle.laws.specs.Every.{every}
-use Rattle.laws.proofs.Every.{every_more, every-all}
 use mathlib.Core.List.{[]}
 use lib.ListN.{length, get_or}
-use Rattle.stored_analyses.specs.Rows.{same_chroma, same_chromas}
+use Rattle.stored_analyses.specs.Rows.{same_chroma}
 use Rattle.stored_analyses.proofs.rows.chromas_agree.Given as goal
 
 abbrev pub invariant-loop-i : goal.invariant-loop-i

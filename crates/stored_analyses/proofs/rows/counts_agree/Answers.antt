@@ -1,13 +1,8 @@
 -- A number a turn, joined to those before.
-use borrow.Author.Rules.{rules}
-use mathlib.Core.Path.{◌≡◌, refl}
+use mathlib.Core.Path.{refl}
 use native.Mathlib.Omega.{arith}
-use Prim.Native.Nat.{ℕ, ◌+◌, ◌*◌, ◌≤◌, ◌-◌}
 use Rattle.laws.specs.Every.{every}
 use Rattle.laws.proofs.Every.{every_more, every-all}
-use lib.Dec.{eqb}
-use lib.ListN.{length, get_or}
-use Rattle.replayed.specs.Records.{word_at}
 use Rattle.stored_analyses.specs.Rows.{same_numbers}
 use Rattle.stored_analyses.proofs.rows.counts_agree.Goals as goal
 

@@ -1,5 +1,4 @@
 -- The number read is the definition's.
-use borrow.Author.Rules.{rules}
 use Rattle.stored_analyses.proofs.rows.number_agrees.Goals as goal
 
 pub returns : goal.returns

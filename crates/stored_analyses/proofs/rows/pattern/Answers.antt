@@ -1,5 +1,4 @@
 -- The NaN has one pattern; of any other value the bits are the pattern.
-use borrow.Author.Rules.{rules}
 use mathlib.Core.Path.{sym, ap}
 use lib.Ieee.{binary64, to_bits}
 use Rattle.laws.proofs.Table.{told}

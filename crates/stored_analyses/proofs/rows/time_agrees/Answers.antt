@@ -1,5 +1,4 @@
 -- The callees' definitions, put together.
-use borrow.Author.Rules.{rules}
 use Rattle.stored_analyses.specs.Rows.{same_time}
 use Rattle.stored_analyses.proofs.rows.time_agrees.Goals as goal
 

@@ -1,13 +1,9 @@
 -- A time a turn, joined to those before.
-use borrow.Author.Rules.{rules}
-use mathlib.Core.Path.{◌≡◌, refl}
+use mathlib.Core.Path.{refl}
 use native.Mathlib.Omega.{arith}
-use Prim.Native.Nat.{ℕ, ◌+◌, ◌*◌, ◌≤◌, ◌-◌}
 use Rattle.laws.specs.Every.{every}
 use Rattle.laws.proofs.Every.{every_more, every-all}
-use lib.ListN.{length, get_or}
-use lib.Ieee.{nan}
-use Rattle.stored_analyses.specs.Rows.{same_time, same_times}
+use Rattle.stored_analyses.specs.Rows.{same_times}
 use Rattle.stored_analyses.proofs.rows.times_agree.Goals as goal
 
 pub loop-i-init : goal.loop-i-init

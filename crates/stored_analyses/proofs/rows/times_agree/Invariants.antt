@@ -1,13 +1,10 @@
 -- A time a turn, joined to those before.
-use borrow.Author.Rules.{rules}
-use mathlib.Core.Path.{◌≡◌, refl}
-use native.Mathlib.Omega.{arith}
+use mathlib.Core.Path.{◌≡◌}
 use Prim.Native.Nat.{ℕ, ◌+◌, ◌*◌, ◌≤◌, ◌-◌}
 use Rattle.laws.specs.Every.{every}
-use Rattle.laws.proofs.Every.{every_more, every-all}
 use lib.ListN.{length, get_or}
 use lib.Ieee.{nan}
-use Rattle.stored_analyses.specs.Rows.{same_time, same_times}
+use Rattle.stored_analyses.specs.Rows.{same_time}
 use Rattle.stored_analyses.proofs.rows.times_agree.Given as goal
 
 abbrev pub invariant-loop-i : goal.invariant-loop-i

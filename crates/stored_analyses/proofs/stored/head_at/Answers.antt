@@ -1,5 +1,4 @@
 -- The callees' definitions, put together.
-use borrow.Author.Rules.{rules}
 use Rattle.stored_analyses.specs.Stored.{head_at}
 use Rattle.stored_analyses.proofs.stored.head_at.Goals as goal
 

@@ -1,10 +1,7 @@
 -- The slice is written from the front, a value a turn.
-use borrow.Author.Rules.{rules}
 use mathlib.Core.Path.{refl}
 use native.Mathlib.Omega.{arith}
-use Prim.Native.Nat.{ℕ, ◌+◌, ◌*◌, ◌≤◌, ◌-◌}
-use lib.ListN.{length}
-use Rattle.laws.proofs.Front.{Filled, filled-start, filled_more, filled-whole}
+use Rattle.laws.proofs.Front.{filled-start, filled_more, filled-whole}
 use Rattle.replayed.specs.Records.{value_at}
 use Rattle.stored_analyses.specs.Stored.{values_at}
 use Rattle.stored_analyses.proofs.stored.read_values.Goals as goal

@@ -1,5 +1,4 @@
 -- What the calls ensure, put together.
-use borrow.Author.Rules.{rules}
 use Rattle.timeline.proofs.estimate.put_estimate.Goals as goal
 
 pub returns : goal.returns

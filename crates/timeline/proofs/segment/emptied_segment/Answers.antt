@@ -1,5 +1,4 @@
 -- What the calls ensure, put together.
-use borrow.Author.Rules.{rules}
 use lib.Ieee.{of_bits}
 use Rattle.timeline.proofs.segment.emptied_segment.Goals as goal
 

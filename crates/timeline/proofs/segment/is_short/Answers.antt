@@ -1,6 +1,5 @@
 -- What the calls ensure, put together.
 use mathlib.Core.Path.{ap}
-use borrow.Author.Rules.{rules}
 use lib.Ieee.{Float, lt}
 use Rattle.timeline.specs.Segments.{short}
 use Rattle.timeline.proofs.segment.is_short.Goals as goal

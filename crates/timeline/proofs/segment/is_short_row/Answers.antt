@@ -2,7 +2,6 @@
 use mathlib.Core.Path.{ap}
 use lib.Ieee.{Float, lt}
 use Rattle.timeline.specs.inside.Segments.{short_in}
-use borrow.Author.Rules.{rules}
 use Rattle.timeline.proofs.segment.is_short_row.Goals as goal
 
 pub returns : goal.returns

@@ -2,7 +2,6 @@
 use mathlib.Core.Path.{ap₂}
 use Prim.Native.Nat.{◌+◌}
 use lib.Ieee.{Float}
-use borrow.Author.Rules.{rules}
 use Rattle.timeline.specs.Segments.{segment, joined}
 use Rattle.timeline.proofs.segment.join_segments.Goals as goal
 

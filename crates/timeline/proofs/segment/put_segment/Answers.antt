@@ -2,7 +2,6 @@
 use mathlib.Core.Path.{ap}
 use Prim.Native.Nat.{ℕ}
 use lib.ListN.{set}
-use borrow.Author.Rules.{rules}
 use Rattle.timeline.specs.inside.Segments.{segment_rows}
 use Rattle.timeline.proofs.segment.put_segment.Goals as goal
 

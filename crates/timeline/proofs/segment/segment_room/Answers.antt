@@ -1,5 +1,4 @@
 -- What the calls ensure, put together.
-use borrow.Author.Rules.{rules}
 use Rattle.timeline.proofs.segment.segment_room.Goals as goal
 
 pub returns : goal.returns

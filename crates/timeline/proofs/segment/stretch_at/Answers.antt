@@ -1,7 +1,6 @@
 -- What the calls ensure, put together.
 use lib.Ieee.{of_bits}
 use Rattle.timeline.specs.inside.Segments.{stretch_in}
-use borrow.Author.Rules.{rules}
 use Rattle.timeline.proofs.segment.stretch_at.Goals as goal
 
 pub returns : goal.returns

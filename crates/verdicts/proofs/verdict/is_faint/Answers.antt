@@ -1,5 +1,4 @@
 -- The sum, compared.
-use borrow.Author.Rules.{rules}
 use lib.Ieee.{of_bits}
 use Rattle.verdicts.specs.Verdict.{faint}
 use Rattle.verdicts.proofs.verdict.is_faint.Goals as goal

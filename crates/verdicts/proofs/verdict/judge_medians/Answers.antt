@@ -1,5 +1,4 @@
 -- The callees' definitions, put together.
-use borrow.Author.Rules.{rules}
 use Rattle.verdicts.specs.Verdict.{verdict_of}
 use Rattle.verdicts.proofs.verdict.judge_medians.Goals as goal
 

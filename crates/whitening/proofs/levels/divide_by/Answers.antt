@@ -1,11 +1,7 @@
 -- The array is written from the front, a quotient a turn.
-use borrow.Author.Rules.{rules}
 use mathlib.Core.Path.{refl}
 use native.Mathlib.Omega.{arith}
-use Prim.Native.Nat.{ℕ, ◌≤◌, ◌-◌}
-use lib.ListN.{get_or}
-use lib.Ieee.{nan, binary32, div}
-use Rattle.laws.proofs.Front.{Filled, filled-start, filled_more, filled-whole}
+use Rattle.laws.proofs.Front.{filled-start, filled_more, filled-whole}
 use Rattle.whitening.specs.Levels.{divided_by}
 use Rattle.whitening.proofs.levels.divide_by.Goals as goal
 

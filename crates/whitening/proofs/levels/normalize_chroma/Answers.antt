@@ -1,5 +1,4 @@
 -- Each return is a branch of the definition.
-use borrow.Author.Rules.{rules}
 use mathlib.Core.Path.{ap, ◌∙◌}
 use lib.Ieee.{lt}
 use Rattle.laws.specs.Values.{epsilon}

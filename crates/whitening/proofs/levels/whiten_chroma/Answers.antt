@@ -1,12 +1,8 @@
 -- The array is written from the front, a value a turn.
-use borrow.Author.Rules.{rules}
 use mathlib.Core.Path.{refl}
 use native.Mathlib.Omega.{arith}
-use Prim.Native.Nat.{ℕ, ◌≤◌, ◌-◌}
-use lib.ListN.{get_or}
-use lib.Ieee.{nan}
-use Rattle.laws.proofs.Front.{Filled, filled-start, filled_more, filled-whole}
-use Rattle.whitening.specs.Levels.{whitened, whitened_of}
+use Rattle.laws.proofs.Front.{filled-start, filled_more, filled-whole}
+use Rattle.whitening.specs.Levels.{whitened_of}
 use Rattle.whitening.proofs.levels.whiten_chroma.Goals as goal
 
 pub loop-i-init : goal.loop-i-init

@@ -1,5 +1,4 @@
 -- Each return is a branch of the definition.
-use borrow.Author.Rules.{rules}
 use lib.Ieee.{of_bits}
 use Rattle.whitening.specs.Levels.{whitened}
 use Rattle.whitening.proofs.levels.whiten_value.Goals as goal

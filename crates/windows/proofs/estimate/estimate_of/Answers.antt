@@ -1,5 +1,4 @@
 -- The callees' definitions, put together.
-use Rattle.std.proofs.Common.{rules}
 use Rattle.windows.specs.Estimates.{estimate_of}
 use Rattle.windows.proofs.estimate.estimate_of.Goals as goal
 

@@ -1,10 +1,8 @@
 -- The run's start, a turn and its end are laws of `Runs`.
-use Rattle.std.proofs.Common.{◌-◌, arith, rules}
-use lib.Ieee.{of_bits}
+use Rattle.std.proofs.Common.{◌-◌}
 use Rattle.gathering.specs.Gather.{heard}
 use Rattle.timeline.specs.inside.Estimates.{estimate_rows}
-use Rattle.gathering.proofs.Known.{known-own}
-use Rattle.windows.proofs.Runs.{Reached, reached-known, reached-start, reached-again, reached-end}
+use Rattle.windows.proofs.Runs.{Reached}
 use Rattle.windows.proofs.run.fill_estimates.Given as goal
 
 abbrev pub invariant-loop-k : goal.invariant-loop-k

@@ -1,5 +1,5 @@
 -- A case of the definition for each way out.
-use Rattle.std.proofs.Common.{◌≡◌, ℕ, ◌+◌, Bool, true, false, cond, eqb, sym, ap, ◌∙◌, arith, rules, eq-eqb, ne_eqb}
+use Rattle.std.proofs.Common.{◌≡◌, ℕ, ◌+◌, Bool, true, false, cond, eqb, sym, ap, ◌∙◌, arith, eq-eqb, ne_eqb}
 use lib.Ieee.{Float, binary64, add, of_bits}
 use Rattle.laws.specs.Convert.{half}
 use Rattle.gathering.specs.Gather.{Heard, heard, gathered_of}

@@ -1,5 +1,5 @@
 -- A case of the definition for each branch.
-use Rattle.std.proofs.Common.{sym, rules}
+use Rattle.std.proofs.Common.{sym}
 use Rattle.windows.specs.Span.{windows_of}
 use Rattle.windows.proofs.span.count_windows.Goals as goal
 

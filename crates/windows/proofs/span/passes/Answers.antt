@@ -1,11 +1,10 @@
 -- The start is window k's at every turn, so the loop's test is the definition's.
 use mathlib.Core.Bool.{not}
 use mathlib.Core.Path.{ap}
-use Rattle.std.proofs.Common.{◌≡◌, ◌-◌, ◌≤◌, arith, rules}
+use Rattle.std.proofs.Common.{arith}
 use lib.Ieee.{of_bits}
 use Rattle.laws.proofs.First.{first_start, first-again, first_out, first-end}
-use Rattle.laws.specs.First.{first}
-use Rattle.windows.specs.Span.{start_of, ends_at, budget_for, windows_within}
+use Rattle.windows.specs.Span.{ends_at, budget_for, windows_within}
 use Rattle.calls.specs.Call.{longest_track}
 use Rattle.windows.proofs.Starts.{start_first, start-next, ends-here}
 use Rattle.windows.proofs.span.passes.Goals as goal

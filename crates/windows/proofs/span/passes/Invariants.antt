@@ -1,11 +1,8 @@
 -- The start is window k's at every turn, so the loop's test is the definition's.
-use Rattle.std.proofs.Common.{◌≡◌, ◌-◌, ◌≤◌, arith, rules}
-use lib.Ieee.{of_bits}
-use Rattle.laws.proofs.First.{first_start, first-again, first_out, first-end}
+use Rattle.std.proofs.Common.{◌≡◌, ◌-◌, ◌≤◌}
 use Rattle.laws.specs.First.{first}
 use Rattle.windows.specs.Span.{start_of, ends_at, budget_for, windows_within}
 use Rattle.calls.specs.Call.{longest_track}
-use Rattle.windows.proofs.Starts.{start_first, start-next, ends-here}
 use Rattle.windows.proofs.span.passes.Given as goal
 
 abbrev pub invariant-loop-k : goal.invariant-loop-k

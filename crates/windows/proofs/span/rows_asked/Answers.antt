@@ -1,5 +1,5 @@
 -- The larger of 1 and the windows, by which of them it is.
-use Rattle.std.proofs.Common.{arith, rules}
+use Rattle.std.proofs.Common.{arith}
 use Rattle.windows.specs.Span.{rows_asked}
 use Rattle.windows.proofs.span.rows_asked.Goals as goal
 

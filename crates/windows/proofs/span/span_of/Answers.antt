@@ -1,5 +1,4 @@
 -- std rounds both numbers, and widening changes no value.
-use Rattle.std.proofs.Common.{rules}
 use Rattle.calls.specs.Call.{seconds_at}
 use Rattle.windows.specs.Span.{span_of}
 use Rattle.windows.proofs.span.span_of.Goals as goal
