@@ -1,5 +1,5 @@
 -- Each way through a turn is a law of `Cuts`.
-use Rattle.std.proofs.Common.{ℕ, sym, ap, ◌∙◌, arith, rules}
+use Rattle.std.proofs.Common.{◌≡◌, ℕ, sym, ap, ◌∙◌, arith, rules}
 use lib.Ieee.{of_bits}
 use Rattle.timeline.specs.inside.Segments.{segment_rows, put_segment}
 use Rattle.groups.specs.inside.Written.{group_in}

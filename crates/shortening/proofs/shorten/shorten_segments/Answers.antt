@@ -1,5 +1,5 @@
 -- Each way out of a turn is a law of `Shortens`.
-use mathlib.Core.Path.{refl, ◌∙◌}
+use mathlib.Core.Path.{◌≡◌, refl, ◌∙◌}
 use Prim.Native.Nat.{ℕ}
 use native.Mathlib.Omega.{arith}
 use Rattle.timeline.specs.Segments.{segments_in, lent_segments}
