@@ -1,13 +1,15 @@
 // Reads a card from standard input, and prints its key and its segments, or why it is refused.
 #![tactic(auto)]
 
-use libc::{STDIN_FILENO, STDOUT_FILENO};
+use inputs::read_full;
 use listing::cards::{listing_room, write_listing};
+use std::io;
+use std::io::Write;
 
-fn main() {
-    let mut card = io::large_buffer();
-    let got = io::read_full(STDIN_FILENO, &mut card);
+fn main(rt: HostRuntime) -> io::Result<()> {
+    let mut card = [0; 65_536];
+    let got = read_full(&mut rt.stdin(), &mut card);
     let mut bytes = listing_room();
     let count = write_listing(&card[..got], &mut bytes);
-    io::write_all(STDOUT_FILENO, &bytes[..count]);
+    rt.stdout().write_all(&bytes[..count])
 }

@@ -14,6 +14,7 @@ fn digit(n: u64) -> u8
 }
 
 // A number in decimal digits.
+#[tactic(auto, using(crate::proofs::Digit::digit_size, crate::proofs::Digit::digit_here))]
 pub fn write_decimal(n: u64, bytes: &mut [u8]) -> usize
     requires { length (decimal_of n) ≤ length bytes.old }
     ensures { AtFront (decimal_of n) bytes.old bytes.new result }

@@ -5,7 +5,6 @@ use crate::card_model::{LAYOUT_1, LAYOUT_2, LAYOUTS, Layout, Meaning, listing};
 use crate::card_reads::{ROW_O, ROW_P, largest};
 use crate::groups::Groups;
 use crate::tool_runs::{Folder, output_on, output_on_endless, programs, text};
-use std::env::consts::ARCH;
 use std::env::vars_os;
 use std::path::{Path, PathBuf};
 use std::process::{Command, Output};
@@ -28,16 +27,10 @@ pub fn program() -> Option<PathBuf> {
     place.exists().then_some(place)
 }
 
-/// The program, not yet run. It is compiled for x86-64; elsewhere the toolchain's emulator runs it, without what the
-/// environment says to emulators.
+/// The program, not yet run. It is compiled for x86-64; elsewhere the system's emulator runs it, as it does the
+/// toolchain, without what the environment says to emulators.
 fn command(program: &Path) -> Command {
-    if ARCH == "x86_64" {
-        return Command::new(program);
-    }
-    let toolchain = programs().join(format!("../../kit/on/{ARCH}/toolchain"));
-    let mut command = Command::new(toolchain.join("bin/qemu-x86_64"));
-    command.arg(toolchain.join("lib/ld-linux-x86-64.so.2"));
-    command.arg("--library-path").args([&toolchain.join("lib"), program]);
+    let mut command = Command::new(program);
     let names = vars_os().map(|(name, _)| name);
     for name in names.filter(|name| name.as_encoded_bytes().starts_with(b"QEMU_")) {
         command.env_remove(name);
