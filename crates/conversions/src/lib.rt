@@ -55,7 +55,7 @@ fn narrow_pattern(bits: u64) -> u64
     0x7f80_0000
 }
 
-// IEEE 754 convert_format, to nearest, a tie to even: Rust's `x as f32`.
+// IEEE 754 convertFormat, to nearest, a tie to even: Rust's `x as f32`.
 pub fn narrow(x: f64) -> f32
     ensures { result ≡ converted binary32 x }
 {

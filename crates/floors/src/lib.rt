@@ -6,7 +6,7 @@ ghost use Rattle.floors.specs.Floor.{floored};
 
 use numbers::single::{is_nan, is_negative, magnitude};
 
-// IEEE 754 round_to_integral_toward_negative. From 2^23 on every f32 is whole.
+// IEEE 754 roundToIntegralTowardNegative. From 2^23 on every f32 is whole.
 pub fn floor(x: f32) -> f32
     ensures { result ≡ floored x }
 {

@@ -7,7 +7,7 @@ use Rattle.std.specs.Float.Ieee.Scale.{finite}
 use Rattle.std.specs.Float.Ieee.Positive.{num, den}
 use Rattle.laws.specs.Values.{negative, two}
 
--- IEEE 754 5.4.2 convert_format, to nearest, a tie to even: the exact value is rounded once, and a zero keeps its sign. Rust's `as f32`.
+-- IEEE 754 5.4.2 convertFormat, to nearest, a tie to even: the exact value is rounded once, and a zero keeps its sign. Rust's `as f32`.
 unfoldable pub converted : Format → Float → Float
 converted f nan = nan
 converted f (inf s) = inf s
@@ -25,7 +25,7 @@ distance x y = cond (beq (negative x) (negative y)) (gap (num x * den y) (num y 
 abbrev pub range_end : Format → ℕ
 range_end f = 2 ^ suc (emax f) - 2 ^ (emax f - prec f)
 
--- IEEE 754 4.3.1 round_ties_to_even, of a finite x to a value r of the format f. r has x's sign, a zero too, and is an infinity exactly where x is out of range.
+-- IEEE 754 4.3.1 roundTiesToEven, of a finite x to a value r of the format f. r has x's sign, a zero too, and is an infinity exactly where x is out of range.
 -- Where r is finite, no finite value y of the format is nearer to x: distance x r / den r is at most distance x y / den y.
 -- Where another is as near, r's last digit is 0: its pattern is even.
 pub record RoundsToEven (f : Format) (x r : Float) : Type 0 where

@@ -4,7 +4,7 @@ use Rattle.std.specs.Float.{nan, Format}
 use Rattle.std.specs.Float.Ieee.{top, fits, is_nan, lt, to_bits}
 use Rattle.laws.specs.Values.{negative, plus_zero, minus_zero}
 
--- IEEE 754 5.10 total_order, "x is at or before y": by value, -0 before +0, and the one NaN after all else
+-- IEEE 754 5.10 totalOrder, "x is at or before y": by value, -0 before +0, and the one NaN after all else
 unfoldable pub total_order : Float → Float → Bool
 total_order x y =
     cond (is_nan x) (is_nan y)

@@ -63,14 +63,14 @@ pub fn order_key(x: f32) -> u32
     }
 }
 
-// IEEE 754 total_order, a at or before b: -inf .. -0, +0 .. inf, NaN.
+// IEEE 754 totalOrder, a at or before b: -inf .. -0, +0 .. inf, NaN.
 pub fn total_before(a: f32, b: f32) -> bool
     ensures { result ≡ total_order a b }
 {
     order_key(a) <= order_key(b)
 }
 
-// IEEE 754 maximum_number.
+// IEEE 754 maximumNumber.
 pub fn larger(a: f32, b: f32) -> f32
     ensures { result ≡ maximum_number a b }
 {
@@ -81,7 +81,7 @@ pub fn larger(a: f32, b: f32) -> f32
     }
 }
 
-// IEEE 754 minimum_number.
+// IEEE 754 minimumNumber.
 pub fn smaller(a: f32, b: f32) -> f32
     ensures { result ≡ minimum_number a b }
 {
