@@ -1,7 +1,7 @@
 // Replays the stored answers of the Rust, for scores and keys and for whole analyses, and prints what it found.
 #![tactic(auto)]
 
-ghost use Rattle.std.specs.Prelude.{◌≤◌, length};
+ghost use Rattle.std.specs.Prelude.{◌≡◌, ◌≤◌, length, take};
 
 use inputs::read_full;
 use replayed::count_differing;
@@ -11,7 +11,7 @@ use std::{fs, io};
 
 // Reads a file to the front of the buffer, and tells how many bytes there are: none where it can't be opened.
 fn read_sample(rt: &(impl Files + Eprint), path: &str, buffer: &mut [u8]) -> usize
-    ensures { result ≤ length buffer.new }
+    ensures { (result ≤ length buffer.new) × (result ≡ length (take result buffer.new)) }
 {
     match fs::open(rt, path) {
         Ok(mut file) => read_full(&mut file, buffer),
