@@ -1,75 +1,66 @@
 -- Each arm is an outcome of what the table says.
 use mathlib.Core.Path.{◌≡◌, sym, ap, ◌∙◌}
-use Prim.Native.Nat.{◌*◌, ◌≤◌, min}
+use mathlib.Core.List.{List}
+use Prim.Native.Nat.{ℕ, ◌*◌, ◌≤◌, min}
 use native.Mathlib.Omega.{arith}
 use lib.ListN.{length}
+use Rattle.card.specs.declared.layout.Layout.{Layout}
 use Rattle.card_form.specs.Form.{header_width}
-use Rattle.card_form.specs.Rows.{rows_in}
+use Rattle.card_form.specs.Rows.{CardRows, lent_card_rows, rows_in}
 use Rattle.card_reader.specs.Reading.{judged_of}
-use Rattle.card_reader.specs.declared.judge.CardJudged.TheVariants.{Readable}
+use Rattle.card_reader.specs.declared.judge.CardJudged.{CardJudged}
 use Rattle.card_reader.proofs.Ready.{Ready, ready, header-small, all_there, segment-small}
 use Rattle.read_call.proofs.Outcomes.{card-refused, card-read}
 use Rattle.read_call.proofs.read_card.Goals as goal
 
+-- what the table says, with as many rows as the code counted
+told : (bytes : List ℕ) (lent : CardRows) {two three rows : ℕ} {j : CardJudged} → two ≡ min (length lent.keys) (length lent.confidences) → three ≡ min (length lent.ends) two → rows ≡ min (length lent.starts) three → j ≡ judged_of bytes rows → judged_of bytes (rows_in lent) ≡ j
+told bytes lent a b e j =
+    sym (j ∙ ap (judged_of bytes) (e ∙ ap (min (length lent.starts)) (b ∙ ap (min (length lent.ends)) a)))
+
+-- the header of a card that is readable is there
+headed : {bytes : List ℕ} {rows : ℕ} {l : Layout} → Ready bytes rows l → header_width l ≤ length bytes * 8
+headed card = omega (arith, card.sound.fits.count, card.long)
+
 pub count_on-count-requires : goal.count_on-count-requires
 count_on-count-requires c =
-    let rows_are : c.fewer-rows.result ≡ rows_in ((record { starts = c.args.starts.now; ends = c.args.ends.now; keys = c.args.keys.now; confidences = c.args.confidences.now })) = c.fewer-rows.ensures
-    ∙ ap (min (length c.args.starts.now)) (c.fewer-2.ensures ∙ ap (min (length c.args.ends.now)) c.fewer.ensures) in
-    let judged-is : judged_of (c.args.bytes.now) (rows_in ((record { starts = c.args.starts.now; ends = c.args.ends.now; keys = c.args.keys.now; confidences = c.args.confidences.now }))) ≡ c.judge_card-judged.result = sym (c.judge_card-judged.ensures ∙ ap (judged_of (c.args.bytes.now)) (rows_are)) in
-    let readable : judged_of (c.args.bytes.now) (rows_in ((record { starts = c.args.starts.now; ends = c.args.ends.now; keys = c.args.keys.now; confidences = c.args.confidences.now }))) ≡ Readable (c.in-Readable.l) = judged-is ∙ c.in-Readable.is in
-    let card : Ready (c.args.bytes.now) (rows_in ((record { starts = c.args.starts.now; ends = c.args.ends.now; keys = c.args.keys.now; confidences = c.args.confidences.now }))) (c.in-Readable.l) = ready (c.args.bytes.now) (rows_in ((record { starts = c.args.starts.now; ends = c.args.ends.now; keys = c.args.keys.now; confidences = c.args.confidences.now }))) (c.in-Readable.l) (readable) in
-    let headed : header_width (c.in-Readable.l) ≤ length (c.args.bytes.now) * 8 = omega (arith, (card).sound.fits.count, (card).long) in
-    ((card).sound.fits, headed)
+    let lent : CardRows = lent_card_rows c.args.starts.now c.args.ends.now c.args.keys.now c.args.confidences.now in
+    let card = ready _ _ c.in-Readable.l (told c.args.bytes.now lent c.fewer.ensures c.fewer-2.ensures c.fewer-rows.ensures c.judge_card-judged.ensures ∙ c.in-Readable.is) in
+    (card.sound.fits, headed card)
 
 pub read_segments-requires : goal.read_segments-requires
 read_segments-requires c =
-    let rows_are : c.fewer-rows.result ≡ rows_in ((record { starts = c.args.starts.now; ends = c.args.ends.now; keys = c.args.keys.now; confidences = c.args.confidences.now })) = c.fewer-rows.ensures
-    ∙ ap (min (length c.args.starts.now)) (c.fewer-2.ensures ∙ ap (min (length c.args.ends.now)) c.fewer.ensures) in
-    let judged-is : judged_of (c.args.bytes.now) (rows_in ((record { starts = c.args.starts.now; ends = c.args.ends.now; keys = c.args.keys.now; confidences = c.args.confidences.now }))) ≡ c.judge_card-judged.result = sym (c.judge_card-judged.ensures ∙ ap (judged_of (c.args.bytes.now)) (rows_are)) in
-    let readable : judged_of (c.args.bytes.now) (rows_in ((record { starts = c.args.starts.now; ends = c.args.ends.now; keys = c.args.keys.now; confidences = c.args.confidences.now }))) ≡ Readable (c.in-Readable.l) = judged-is ∙ c.in-Readable.is in
-    let card : Ready (c.args.bytes.now) (rows_in ((record { starts = c.args.starts.now; ends = c.args.ends.now; keys = c.args.keys.now; confidences = c.args.confidences.now }))) (c.in-Readable.l) = ready (c.args.bytes.now) (rows_in ((record { starts = c.args.starts.now; ends = c.args.ends.now; keys = c.args.keys.now; confidences = c.args.confidences.now }))) (c.in-Readable.l) (readable) in
+    let lent : CardRows = lent_card_rows c.args.starts.now c.args.ends.now c.args.keys.now c.args.confidences.now in
+    let card = ready _ _ c.in-Readable.l (told c.args.bytes.now lent c.fewer.ensures c.fewer-2.ensures c.fewer-rows.ensures c.judge_card-judged.ensures ∙ c.in-Readable.is) in
     let same = c.count_on-count.ensures.0 in
     record {
-      layout = (card).sound.fits;
-      narrow = omega (arith, (card).sound.narrow);
+      layout = card.sound.fits;
+      narrow = omega (arith, card.sound.narrow);
       few = c.count_on-count.ensures.1;
-      there = rw same (all_there (card));
-      fits = λ i h. segment-small (card) i (rw same at h);
-      room = let r = (card).room in omega (arith, same, r);
+      there = rw same (all_there card);
+      fits = λ i h. segment-small card i (rw same at h);
+      room = let r = card.room in omega (arith, same, r);
     }
 
 pub header_on-requires : goal.header_on-requires
 header_on-requires c =
-    let rows_are : c.fewer-rows.result ≡ rows_in ((record { starts = c.args.starts.now; ends = c.args.ends.now; keys = c.args.keys.now; confidences = c.args.confidences.now })) = c.fewer-rows.ensures
-    ∙ ap (min (length c.args.starts.now)) (c.fewer-2.ensures ∙ ap (min (length c.args.ends.now)) c.fewer.ensures) in
-    let judged-is : judged_of (c.args.bytes.now) (rows_in ((record { starts = c.args.starts.now; ends = c.args.ends.now; keys = c.args.keys.now; confidences = c.args.confidences.now }))) ≡ c.judge_card-judged.result = sym (c.judge_card-judged.ensures ∙ ap (judged_of (c.args.bytes.now)) (rows_are)) in
-    let readable : judged_of (c.args.bytes.now) (rows_in ((record { starts = c.args.starts.now; ends = c.args.ends.now; keys = c.args.keys.now; confidences = c.args.confidences.now }))) ≡ Readable (c.in-Readable.l) = judged-is ∙ c.in-Readable.is in
-    let card : Ready (c.args.bytes.now) (rows_in ((record { starts = c.args.starts.now; ends = c.args.ends.now; keys = c.args.keys.now; confidences = c.args.confidences.now }))) (c.in-Readable.l) = ready (c.args.bytes.now) (rows_in ((record { starts = c.args.starts.now; ends = c.args.ends.now; keys = c.args.keys.now; confidences = c.args.confidences.now }))) (c.in-Readable.l) (readable) in
-    let headed : header_width (c.in-Readable.l) ≤ length (c.args.bytes.now) * 8 = omega (arith, (card).sound.fits.count, (card).long) in
-    ((card).sound.fits, headed)
+    let lent : CardRows = lent_card_rows c.args.starts.now c.args.ends.now c.args.keys.now c.args.confidences.now in
+    let card = ready _ _ c.in-Readable.l (told c.args.bytes.now lent c.fewer.ensures c.fewer-2.ensures c.fewer-rows.ensures c.judge_card-judged.ensures ∙ c.in-Readable.is) in
+    (card.sound.fits, headed card)
 
 pub read_answer-requires : goal.read_answer-requires
 read_answer-requires c =
-    let rows_are : c.fewer-rows.result ≡ rows_in ((record { starts = c.args.starts.now; ends = c.args.ends.now; keys = c.args.keys.now; confidences = c.args.confidences.now })) = c.fewer-rows.ensures
-    ∙ ap (min (length c.args.starts.now)) (c.fewer-2.ensures ∙ ap (min (length c.args.ends.now)) c.fewer.ensures) in
-    let judged-is : judged_of (c.args.bytes.now) (rows_in ((record { starts = c.args.starts.now; ends = c.args.ends.now; keys = c.args.keys.now; confidences = c.args.confidences.now }))) ≡ c.judge_card-judged.result = sym (c.judge_card-judged.ensures ∙ ap (judged_of (c.args.bytes.now)) (rows_are)) in
-    let readable : judged_of (c.args.bytes.now) (rows_in ((record { starts = c.args.starts.now; ends = c.args.ends.now; keys = c.args.keys.now; confidences = c.args.confidences.now }))) ≡ Readable (c.in-Readable.l) = judged-is ∙ c.in-Readable.is in
-    let card : Ready (c.args.bytes.now) (rows_in ((record { starts = c.args.starts.now; ends = c.args.ends.now; keys = c.args.keys.now; confidences = c.args.confidences.now }))) (c.in-Readable.l) = ready (c.args.bytes.now) (rows_in ((record { starts = c.args.starts.now; ends = c.args.ends.now; keys = c.args.keys.now; confidences = c.args.confidences.now }))) (c.in-Readable.l) (readable) in
-    let small = header-small (card) in
+    let lent : CardRows = lent_card_rows c.args.starts.now c.args.ends.now c.args.keys.now c.args.confidences.now in
+    let small = header-small (ready _ _ c.in-Readable.l (told c.args.bytes.now lent c.fewer.ensures c.fewer-2.ensures c.fewer-rows.ensures c.judge_card-judged.ensures ∙ c.in-Readable.is)) in
     let h = c.header_on.ensures in
     rw h (omega (arith, small.key), omega (arith, small.dsp), omega (arith, small.alternate), omega (arith, small.coverage), omega (arith, small.confidence))
 
 pub returns-in-Refused : goal.returns-in-Refused
 returns-in-Refused c =
-    let rows_are : c.fewer-rows.result ≡ rows_in ((record { starts = c.args.starts.now; ends = c.args.ends.now; keys = c.args.keys.now; confidences = c.args.confidences.now })) = c.fewer-rows.ensures
-    ∙ ap (min (length c.args.starts.now)) (c.fewer-2.ensures ∙ ap (min (length c.args.ends.now)) c.fewer.ensures) in
-    let judged-is : judged_of (c.args.bytes.now) (rows_in ((record { starts = c.args.starts.now; ends = c.args.ends.now; keys = c.args.keys.now; confidences = c.args.confidences.now }))) ≡ c.judge_card-judged.result = sym (c.judge_card-judged.ensures ∙ ap (judged_of (c.args.bytes.now)) (rows_are)) in
-    card-refused (c.args.bytes.now) ((record { starts = c.args.starts.now; ends = c.args.ends.now; keys = c.args.keys.now; confidences = c.args.confidences.now })) _ (judged-is ∙ c.in-Refused.is) c.unread_card.ensures
+    let lent : CardRows = lent_card_rows c.args.starts.now c.args.ends.now c.args.keys.now c.args.confidences.now in
+    card-refused _ lent _ (told c.args.bytes.now lent c.fewer.ensures c.fewer-2.ensures c.fewer-rows.ensures c.judge_card-judged.ensures ∙ c.in-Refused.is) c.unread_card.ensures
 
 pub returns-in-Readable : goal.returns-in-Readable
 returns-in-Readable c =
-    let rows_are : c.fewer-rows.result ≡ rows_in ((record { starts = c.args.starts.now; ends = c.args.ends.now; keys = c.args.keys.now; confidences = c.args.confidences.now })) = c.fewer-rows.ensures
-    ∙ ap (min (length c.args.starts.now)) (c.fewer-2.ensures ∙ ap (min (length c.args.ends.now)) c.fewer.ensures) in
-    let judged-is : judged_of (c.args.bytes.now) (rows_in ((record { starts = c.args.starts.now; ends = c.args.ends.now; keys = c.args.keys.now; confidences = c.args.confidences.now }))) ≡ c.judge_card-judged.result = sym (c.judge_card-judged.ensures ∙ ap (judged_of (c.args.bytes.now)) (rows_are)) in
-    let readable : judged_of (c.args.bytes.now) (rows_in ((record { starts = c.args.starts.now; ends = c.args.ends.now; keys = c.args.keys.now; confidences = c.args.confidences.now }))) ≡ Readable (c.in-Readable.l) = judged-is ∙ c.in-Readable.is in
-    card-read (c.args.bytes.now) ((record { starts = c.args.starts.now; ends = c.args.ends.now; keys = c.args.keys.now; confidences = c.args.confidences.now })) (c.in-Readable.l) (readable) c.count_on-count.ensures.0 c.header_on.ensures c.read_answer.ensures c.read_segments.ensures
+    let lent : CardRows = lent_card_rows c.args.starts.now c.args.ends.now c.args.keys.now c.args.confidences.now in
+    card-read _ lent c.in-Readable.l (told c.args.bytes.now lent c.fewer.ensures c.fewer-2.ensures c.fewer-rows.ensures c.judge_card-judged.ensures ∙ c.in-Readable.is) c.count_on-count.ensures.0 c.header_on.ensures c.read_answer.ensures c.read_segments.ensures
