@@ -2,15 +2,15 @@
 ghost use Rattle.std.specs.Prelude.{◌≡◌, length};
 ghost use Rattle.numbers.specs.Sum.{sum_of, added_each};
 
+use std::array;
+
 // The Rust's `values.iter().sum()`.
 pub fn sum_of_twelve(values: &[f32; 12]) -> f32
     ensures { result ≡ sum_of 12 values.now }
 {
     let mut sum = -0.0;
-    let mut i = 0;
-    while i < 12 {
-        sum += values[i];
-        i += 1;
+    for value in values {
+        sum += *value;
     }
     sum
 }
@@ -21,11 +21,7 @@ pub fn twelve_values(slice: &[f32]) -> [f32; 12]
     ensures { result ≡ slice.now }
 {
     let mut values = [0.0; 12];
-    let mut i = 0;
-    while i < 12 {
-        values[i] = slice[i];
-        i += 1;
-    }
+    values.copy_from_slice(slice);
     values
 }
 
@@ -33,11 +29,5 @@ pub fn twelve_values(slice: &[f32]) -> [f32; 12]
 pub fn add_twelve(sums: &[f32; 12], more: &[f32; 12]) -> [f32; 12]
     ensures { result ≡ added_each sums.now more.now }
 {
-    let mut added = [0.0; 12];
-    let mut i = 0;
-    while i < 12 {
-        added[i] = sums[i] + more[i];
-        i += 1;
-    }
-    added
+    array::from_fn(|i| sums[i] + more[i])
 }

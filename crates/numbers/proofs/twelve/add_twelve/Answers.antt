@@ -1,16 +1,9 @@
--- The array is written from the front, a sum a turn.
-use mathlib.Core.Path.{refl}
-use native.Mathlib.Omega.{arith}
-use Rattle.laws.proofs.Front.{filled-start, filled_more, filled-whole}
+-- The closure adds two values, and stays as it is.
+use Rattle.std.proofs.Common.{rules}
+use Rattle.laws.proofs.FromFn.{list-from_fn}
 use Rattle.numbers.specs.Sum.{added_each}
 use Rattle.numbers.proofs.twelve.add_twelve.Goals as goal
 
-pub loop-i-init : goal.loop-i-init
-loop-i-init c = (omega arith, filled-start _ _)
-
-pub loop-i-preserved : goal.loop-i-preserved
-loop-i-preserved c = (omega arith, filled_more _ _ _ c.loop-i.i c.loop-i.invariant.1 (omega arith))
-
 pub returns : goal.returns
 unfolding added_each
-returns c = filled-whole _ _ _ c.loop-i.i 12 c.loop-i.invariant.1 (omega arith) refl
+returns c = list-from_fn _ _ _ _ 12 (λ j y q l k. search rules) c.from_fn.ensures.items
