@@ -1,3 +1,4 @@
 pub mod Call
 pub mod Rows
+pub mod Lent
 pub mod inside

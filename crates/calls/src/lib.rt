@@ -1,5 +1,8 @@
-// What a call is asked, and what the sheet that it lends was made for.
+// What a call is asked, what it lends to be read, and what it lends to be written.
 #![tactic(auto)]
+
+pub mod rows;
+pub mod sheet;
 
 // The longest track in seconds.
 pub const LONGEST_TRACK: usize = 86_400;
