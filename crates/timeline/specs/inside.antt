@@ -1,3 +1,4 @@
 -- What only the code's own steps need: no promise names it.
 pub mod Estimates
 pub mod Segments
+pub mod Lent

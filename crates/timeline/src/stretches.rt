@@ -1,0 +1,47 @@
+// The columns of segments that the reported key and the alternate are read from.
+ghost use Rattle.std.specs.Prelude.{◌≡◌, ◌<◌, length};
+ghost use Rattle.timeline.specs.inside.Segments.{seconds_in, short_in, stretch_in};
+ghost use Rattle.timeline.specs.inside.Lent.{stretches_lent};
+
+use crate::segment::Segment;
+use crate::stored::stored_key;
+
+// From when to when in seconds, and the keys by number.
+#[derive(Clone, Copy)]
+pub struct LentStretches<'a> {
+    pub starts: &'a [f64],
+    pub ends: &'a [f64],
+    pub keys: &'a [u8],
+}
+
+impl LentStretches<'_> {
+    // The segment in row i as far as these columns tell it.
+    pub fn at(self, i: usize) -> Segment
+        requires { (i < length self.starts.now) × (i < length self.ends.now) × (i < length self.keys.now) }
+        ensures { result ≡ stretch_in (stretches_lent self.entry) i }
+    {
+        Segment {
+            start: self.starts[i],
+            end: self.ends[i],
+            key: stored_key(self.keys[i]),
+            confidence: 0.0,
+            windows: 0,
+        }
+    }
+
+    // How long the segment in row i is, in seconds.
+    pub fn seconds(self, i: usize) -> f64
+        requires { (i < length self.starts.now) × (i < length self.ends.now) }
+        ensures { result ≡ seconds_in self.entry.starts.now self.entry.ends.now i }
+    {
+        self.ends[i] - self.starts[i]
+    }
+
+    // Whether the segment in row i is shorter than the minimum.
+    pub fn is_short(self, least: f64, i: usize) -> bool
+        requires { (i < length self.starts.now) × (i < length self.ends.now) }
+        ensures { result ≡ short_in least self.entry.starts.now self.entry.ends.now i }
+    {
+        self.seconds(i) < least
+    }
+}
