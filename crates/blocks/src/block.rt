@@ -26,10 +26,8 @@ pub fn are_whole(samples: usize, centre: usize, hop: usize, lengths: &[u32]) -> 
     ensures { result ≡ all_whole samples centre hop lengths.now }
 {
     let mut sofar = true;
-    let mut k = 0;
-    while k < lengths.len() {
-        sofar = sofar & is_whole(samples, centre, hop, lengths[k] as usize);
-        k += 1;
+    for length in lengths {
+        sofar &= is_whole(samples, centre, hop, *length as usize);
     }
     sofar
 }
@@ -39,11 +37,7 @@ fn clear(block: &mut [[f32; 12]])
     requires { length block.old ≡ 8 }
     ensures { block.new ≡ empty_block }
 {
-    let mut j = 0;
-    while j < 8 {
-        block[j] = [0.0; 12];
-        j += 1;
-    }
+    block.copy_from_slice(&[[0.0; 12]; 8]);
 }
 
 // The powers of row k are added to the sums of its class, one to each position's.
@@ -52,10 +46,8 @@ fn add_row(lowest: u8, k: usize, powers: [f32; 8], block: &mut [[f32; 12]])
     ensures { block.new ≡ row_added lowest k powers block.old }
 {
     let class = class_at(lowest, k);
-    let mut j = 0;
-    while j < 8 {
+    for j in 0..8 {
         block[j][class] += powers[j];
-        j += 1;
     }
 }
 
@@ -76,14 +68,10 @@ pub fn write_chromas(
     clear(block);
     let end = windows.len();
     let mut first = 0;
-    let mut k = 0;
-    while k < lengths.len() {
-        let next = k + 1;
+    for k in 0..lengths.len() {
         let placed = place(samples.len(), centre, lengths, coefficients, end, k, first);
-        let lane = placed.lane;
-        let powers = eight_powers(samples, windows, lane, hop);
+        let powers = eight_powers(samples, windows, placed.lane, hop);
         add_row(lowest, k, powers, block);
         first = placed.next;
-        k = next;
     }
 }

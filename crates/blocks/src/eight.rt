@@ -20,9 +20,7 @@ fn later(lane: Lane, by: usize) -> Lane
 {
     Lane {
         start: lane.start + by,
-        first: lane.first,
-        count: lane.count,
-        coefficient: lane.coefficient,
+        ..lane
     }
 }
 
@@ -46,14 +44,11 @@ fn run_eight(samples: &[f32], windows: &[f32], early: Lanes, late: Lanes, n: usi
         early: four_at_rest(),
         late: four_at_rest(),
     };
-    let mut i = 0;
-    while i < n {
-        let next = i + 1;
+    for i in 0..n {
         state = Eight {
             early: step_lanes(samples, windows, early, i, state.early),
             late: step_lanes(samples, windows, late, i, state.late),
         };
-        i = next;
     }
     state
 }

@@ -37,23 +37,20 @@ fn refill(
     ensures { FilledFrom (constant_at (constant_q_rows lowest lengths.now coefficients.now windows.now) samples.now half hop) k result block.new }
 {
     let centre = k * hop + half;
-    if positions - k >= 8 {
-        if are_whole(samples.len(), centre, hop, lengths) {
-            write_chromas(
-                lowest,
-                samples,
-                centre,
-                hop,
-                lengths,
-                coefficients,
-                windows,
-                block,
-            );
-            return Held { first: k, count: 8 };
-        }
+    if positions - k >= 8 && are_whole(samples.len(), centre, hop, lengths) {
+        write_chromas(
+            lowest,
+            samples,
+            centre,
+            hop,
+            lengths,
+            coefficients,
+            windows,
+            block,
+        );
+        return Held { first: k, count: 8 };
     }
-    let chroma = constant_q_chroma(lowest, samples, centre, lengths, coefficients, windows);
-    block[0] = chroma;
+    block[0] = constant_q_chroma(lowest, samples, centre, lengths, coefficients, windows);
     Held { first: k, count: 1 }
 }
 

@@ -20,14 +20,10 @@ fn sum_powers(
     ensures { result ≡ powers_by_class lowest samples centre lengths.now powers.now }
 {
     let mut sums = [0.0; 12];
-    let mut k = 0;
-    while k < powers.len() {
-        let class = class_at(lowest, k);
-        let next = k + 1;
+    for k in 0..powers.len() {
         if half_is_left(lengths[k] as usize, centre, samples) {
-            sums[class] += powers[k];
+            sums[class_at(lowest, k)] += powers[k];
         }
-        k = next;
     }
     sums
 }

@@ -7,7 +7,6 @@ ghost use Rattle.constant_q.specs.inside.Lanes.{Lies, FourLie, lane_value, lane_
 
 use filters::four::{Delays, Four, four_at_rest, step_four};
 use filters::resonator::{Delay, at_rest, power, step};
-use numbers::counts::fewer;
 use numbers::single::larger;
 
 // Where a row's samples and window values begin, how many there are, and how its resonator is tuned.
@@ -41,13 +40,10 @@ fn run_lane(samples: &[f32], windows: &[f32], lane: Lane, from: usize, delay: De
     requires { Lies (length samples.now) (length windows.now) lane × (from ≤ lane.count) × (delay ≡ lane_delay samples.now windows.now lane from) }
     ensures { result ≡ lane_delay samples.now windows.now lane lane.count }
 {
-    let count = lane.count;
     let mut state = delay;
-    let mut i = from;
-    while i < count {
+    for i in from..lane.count {
         let x = lane_value(samples, windows, lane, i);
         state = step(state, lane.coefficient, x);
-        i += 1;
     }
     state
 }
@@ -94,15 +90,11 @@ fn four_values(samples: &[f32], windows: &[f32], lanes: Lanes, i: usize) -> Four
 fn four_coefficients(lanes: Lanes) -> Four
     ensures { result ≡ four_coefficients lanes }
 {
-    let a = lanes.a;
-    let b = lanes.b;
-    let c = lanes.c;
-    let d = lanes.d;
     Four {
-        a: a.coefficient,
-        b: b.coefficient,
-        c: c.coefficient,
-        d: d.coefficient,
+        a: lanes.a.coefficient,
+        b: lanes.b.coefficient,
+        c: lanes.c.coefficient,
+        d: lanes.d.coefficient,
     }
 }
 
@@ -127,10 +119,8 @@ fn run_four(samples: &[f32], windows: &[f32], lanes: Lanes, n: usize) -> Delays
     ensures { result ≡ four_delays samples.now windows.now lanes n }
 {
     let mut delays = four_at_rest();
-    let mut i = 0;
-    while i < n {
+    for i in 0..n {
         delays = step_lanes(samples, windows, lanes, i, delays);
-        i += 1;
     }
     delays
 }
@@ -139,11 +129,8 @@ fn run_four(samples: &[f32], windows: &[f32], lanes: Lanes, n: usize) -> Delays
 fn fewest(lanes: Lanes) -> usize
     ensures { result ≡ fewest_of lanes }
 {
-    let a = lanes.a;
-    let b = lanes.b;
-    let c = lanes.c;
-    let d = lanes.d;
-    fewer(fewer(a.count, b.count), fewer(c.count, d.count))
+    let early = lanes.a.count.min(lanes.b.count);
+    early.min(lanes.c.count.min(lanes.d.count))
 }
 
 // The powers of four lanes: side by side as far as all reach, then each by itself.

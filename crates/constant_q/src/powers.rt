@@ -74,11 +74,12 @@ fn place_four(
     let q = place(samples, centre, lengths, coefficients, end, k + 1, p.next);
     let r = place(samples, centre, lengths, coefficients, end, k + 2, q.next);
     let s = place(samples, centre, lengths, coefficients, end, k + 3, r.next);
-    let a = p.lane;
-    let b = q.lane;
-    let c = r.lane;
-    let d = s.lane;
-    let lanes = Lanes { a, b, c, d };
+    let lanes = Lanes {
+        a: p.lane,
+        b: q.lane,
+        c: r.lane,
+        d: s.lane,
+    };
     PlacedLanes {
         lanes,
         next: s.next,
@@ -101,8 +102,7 @@ fn write_one(
 {
     let end = windows.len();
     let placed = place(samples.len(), centre, lengths, coefficients, end, k, first);
-    let lane = placed.lane;
-    room[k] = lane_power(samples, windows, lane);
+    room[k] = lane_power(samples, windows, placed.lane);
     placed.next
 }
 
@@ -122,8 +122,7 @@ fn write_four(
 {
     let end = windows.len();
     let four = place_four(samples.len(), centre, lengths, coefficients, end, k, first);
-    let lanes = four.lanes;
-    let powers = four_powers(samples, windows, lanes);
+    let powers = four_powers(samples, windows, four.lanes);
     put_four(powers, k, room);
     four.next
 }

@@ -1,9 +1,7 @@
 // The part of a track that a window around a centre covers.
-ghost use Rattle.std.specs.Prelude.{◌≡◌, ◌-◌, ◌≤◌};
+ghost use Rattle.std.specs.Prelude.{◌≡◌, ◌≤◌};
 ghost use Rattle.constant_q.specs.ConstantQ.{half_left};
 ghost use Rattle.constant_q.specs.inside.Powers.{covered_span};
-
-use numbers::counts::fewer;
 
 // The part of the track that a window covers: its first sample, and how many there are.
 #[derive(Clone, Copy)]
@@ -12,20 +10,13 @@ pub struct Span {
     pub count: usize,
 }
 
-// a - b, and 0 where b is larger.
-fn less(a: usize, b: usize) -> usize
-    ensures { result ≡ a - b }
-{
-    if a < b { 0 } else { a - b }
-}
-
 // A window of this size around a centre, cut at the track's ends.
 pub fn span_around(size: usize, centre: usize, samples: usize) -> Span
     requires { centre ≤ samples }
     ensures { result ≡ covered_span size centre samples }
 {
-    let start = less(centre, size / 2);
-    let count = fewer(size, samples - start);
+    let start = centre.saturating_sub(size / 2);
+    let count = size.min(samples - start);
     Span { start, count }
 }
 
@@ -35,5 +26,5 @@ pub fn half_is_left(size: usize, centre: usize, samples: usize) -> bool
     ensures { result ≡ half_left size centre samples }
 {
     let span = span_around(size, centre, samples);
-    !(span.count < size / 2)
+    span.count >= size / 2
 }

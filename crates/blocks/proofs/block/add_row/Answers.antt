@@ -8,15 +8,15 @@ use Rattle.blocks.specs.inside.Block.{row_added}
 use Rattle.blocks.proofs.block.add_row.Goals as goal
 
 pub loop-j-init : goal.loop-j-init
-loop-j-init c = (omega arith, filled-start _ _)
+loop-j-init c = filled-start _ _
 
 pub loop-j-preserved : goal.loop-j-preserved
 unfolding class_added
 loop-j-preserved c =
     let turn = c.loop-j in
-    let old = filled-rest _ _ _ turn.j turn.j [] turn.invariant.1 (le_refl turn.j) in
-    (omega arith, rw (c.class_at-class.ensures.0, old) (filled_more _ _ _ turn.j turn.invariant.1 (omega arith)))
+    let old = filled-rest _ _ _ turn.j turn.j [] turn.invariant (le_refl turn.j) in
+    rw (c.class_at-class.ensures.0, old) (filled_more _ _ _ turn.j turn.invariant (omega arith))
 
 pub returns : goal.returns
 unfolding row_added
-returns c = let last = c.loop-j in filled-whole _ _ _ last.j 8 last.invariant.1 (omega arith) (omega arith)
+returns c = let last = c.loop-j in filled-whole _ _ _ last.j 8 last.invariant (omega arith) (omega arith)

@@ -10,7 +10,7 @@ use Rattle.blocks.proofs.eight.run_eight.Goals as goal
 
 pub loop-i-init : goal.loop-i-init
 unfolding eight_delays four_alone resonated turns
-loop-i-init c = (omega arith, rw (c.four_at_rest-2.ensures, c.four_at_rest.ensures) refl)
+loop-i-init c = rw (c.four_at_rest-2.ensures, c.four_at_rest.ensures) refl
 
 pub loop-i-preserved : goal.loop-i-preserved
 unfolding eight_delays
@@ -19,11 +19,11 @@ loop-i-preserved c =
     let a = c.args in
     let e = lanes-more a.samples.now a.windows.now a.early turn.i in
     let l = lanes-more a.samples.now a.windows.now a.late turn.i in
-    (omega arith, rw (c.step_lanes-in-loop-i.ensures, c.step_lanes.ensures, turn.invariant.1, e, l) refl)
+    rw (c.step_lanes-in-loop-i.ensures, c.step_lanes.ensures, turn.invariant, e, l) refl
 
 pub returns : goal.returns
 returns c =
     let last = c.loop-i in
     let a = c.args in
     let e : last.i ≡ a.n = omega arith in
-    last.invariant.1 ∙ ap (eight_delays a.samples.now a.windows.now a.early a.late) e
+    last.invariant ∙ ap (eight_delays a.samples.now a.windows.now a.early a.late) e

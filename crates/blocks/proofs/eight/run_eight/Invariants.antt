@@ -1,11 +1,7 @@
 -- A value of each lane a turn.
-use Prim.Native.Nat.{◌≤◌, ◌-◌}
 use mathlib.Core.Path.{◌≡◌}
 use Rattle.blocks.specs.inside.Eight.{eight_delays}
 use Rattle.blocks.proofs.eight.run_eight.Given as goal
 
 abbrev pub invariant-loop-i : goal.invariant-loop-i
-invariant-loop-i l = (l.i ≤ l.n) × (l.state ≡ eight_delays l.samples l.windows l.early l.late l.i)
-
-abbrev pub decreases-loop-i : goal.decreases-loop-i
-decreases-loop-i l = l.n - l.i
+invariant-loop-i l = l.state ≡ eight_delays l.samples l.windows l.early l.late l.i

@@ -21,8 +21,8 @@ write_chromas-requires c = let a = c.args in (inside a.samples.now a.half a.hop 
 pub returns-then-are_whole : goal.returns-then-are_whole
 returns-then-are_whole c = let a = c.args in block_held a.samples.now a.half a.hop a.k (constant_q_rows a.lowest a.lengths.now a.coefficients.now a.windows.now) c.write_chromas.ensures
 
-pub constant_q_chroma-chroma-requires : goal.constant_q_chroma-chroma-requires
-constant_q_chroma-chroma-requires c = let a = c.args in (c.requires.1.on a.k c.requires.0, c.requires.2.alike, c.requires.2.few, c.requires.2.joined)
+pub constant_q_chroma-requires : goal.constant_q_chroma-requires
+constant_q_chroma-requires c = let a = c.args in (c.requires.1.on a.k c.requires.0, c.requires.2.alike, c.requires.2.few, c.requires.2.joined)
 
 pub returns : goal.returns
-returns c = let a = c.args in one-held (constant_at (constant_q_rows a.lowest a.lengths.now a.coefficients.now a.windows.now) a.samples.now a.half a.hop) a.k a.block.now c.requires.3 c.constant_q_chroma-chroma.ensures
+returns c = let a = c.args in one-held (constant_at (constant_q_rows a.lowest a.lengths.now a.coefficients.now a.windows.now) a.samples.now a.half a.hop) a.k a.block.now c.requires.3 c.constant_q_chroma.ensures

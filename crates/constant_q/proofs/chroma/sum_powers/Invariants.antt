@@ -1,11 +1,8 @@
 -- A row a turn, added or passed over.
-use Rattle.std.proofs.Common.{◌≡◌, ◌-◌, ◌≤◌, length}
+use Rattle.std.proofs.Common.{◌≡◌, ◌-◌, length}
 use Rattle.laws.specs.Turns.{turns}
 use Rattle.constant_q.specs.inside.Powers.{listed_turn, powers_by_class}
 use Rattle.constant_q.proofs.chroma.sum_powers.Given as goal
 
 abbrev pub invariant-loop-k : goal.invariant-loop-k
-invariant-loop-k l = (l.k ≤ length l.powers) × (turns (listed_turn l.lowest l.samples l.centre l.lengths l.powers) (length l.powers - l.k) l.k l.sums ≡ powers_by_class l.lowest l.samples l.centre l.lengths l.powers)
-
-abbrev pub decreases-loop-k : goal.decreases-loop-k
-decreases-loop-k l = length l.powers - l.k
+invariant-loop-k l = turns (listed_turn l.lowest l.samples l.centre l.lengths l.powers) (length l.powers - l.k) l.k l.sums ≡ powers_by_class l.lowest l.samples l.centre l.lengths l.powers

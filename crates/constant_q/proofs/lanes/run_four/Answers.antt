@@ -9,10 +9,10 @@ use Rattle.constant_q.proofs.lanes.run_four.Goals as goal
 
 pub loop-i-init : goal.loop-i-init
 unfolding four_alone resonated turns
-loop-i-init c = (omega arith, rw c.four_at_rest-delays.ensures refl)
+loop-i-init c = rw c.four_at_rest-delays.ensures refl
 
 pub loop-i-preserved : goal.loop-i-preserved
-loop-i-preserved c = let turn = c.loop-i in let a = c.args in (omega arith, rw (c.step_lanes-delays.ensures, turn.invariant.1) (lanes-more a.samples.now a.windows.now a.lanes turn.i))
+loop-i-preserved c = let a = c.args in rw (c.step_lanes-delays.ensures, c.loop-i.invariant) (lanes-more a.samples.now a.windows.now a.lanes c.loop-i.i)
 
 pub returns : goal.returns
-returns c = let last = c.loop-i in let a = c.args in let e : last.i ≡ a.n = omega arith in last.invariant.1 ∙ ap (four_delays a.samples.now a.windows.now a.lanes) e
+returns c = let last = c.loop-i in let a = c.args in let e : last.i ≡ a.n = omega arith in last.invariant ∙ ap (four_delays a.samples.now a.windows.now a.lanes) e

@@ -3,9 +3,6 @@ use Rattle.std.proofs.Common.{length, refl, arith}
 use Rattle.constant_q.proofs.Spans.{joined-within, joined-next}
 use Rattle.constant_q.proofs.powers.place.Goals as goal
 
-pub overflow_cast-next : goal.overflow_cast-next
-overflow_cast-next c = omega (arith, c.shared_slice_known-3-1.given c.args.k)
-
 pub overflow_add-next : goal.overflow_add-next
 overflow_add-next c = let a = c.args in let j = joined-within a.lengths.now (length a.lengths.now) a.k (omega arith) in omega arith
 

@@ -3,4 +3,4 @@ use Rattle.constant_q.proofs.Spans.{span-is}
 use Rattle.constant_q.proofs.span.span_around.Goals as goal
 
 pub returns : goal.returns
-returns c = let a = c.args in span-is a.size a.centre a.samples c.requires c.less-start.ensures c.fewer-count.ensures
+returns c = let a = c.args in span-is a.size a.centre a.samples c.requires c.saturating_sub-start.ensures c.min-count.ensures
