@@ -6,7 +6,7 @@ use native.Mathlib.Nat.{mod-eq_of_lt}
 use native.Mathlib.Numerals.{add-one}
 use native.Mathlib.Omega.{arith}
 use lib.ListN.{length, take, drop, get_or, length-append, length-drop, take-append-drop}
-use lib.Seq.{take_at, drop_at, take-suc, take-add, get_or-drop, length-take-le}
+use lib.Seq.{take_at, drop_at, take_all, take-suc, take-add, length-take-le}
 use Rattle.bits.specs.Bits.{bits_of, number_of, bits_of_bytes, field_bits, field_at, fields_of, HasBits}
 use Rattle.bits.proofs.Digits.{length-bits, length-bytes, bits-split, number-bits, bytes-append, bits-joined}
 use Rattle.bits.proofs.Binary.{Binary, binary-take, binary-drop, spelled}
@@ -22,16 +22,26 @@ field-middle xs ys at width v size =
 abbrev pub window : List ℕ → ℕ → ℕ → List ℕ
 window bytes first k = bits_of_bytes (take k (drop first bytes))
 
--- one byte more
-pub window_more : (bytes : List ℕ) (first k n r : ℕ) → first + k < length bytes → HasBits (k * 8) n (window bytes first k) → get_or bytes (first + k) 0 < 2 ^ 8 →
-    r ≡ n * 2 ^ 8 + get_or bytes (first + k) 0 → HasBits ((k + 1) * 8) r (window bytes first (k + 1))
+-- so many bytes lent from there on
+pub window-lent : (bytes : List ℕ) (first k n : ℕ) → first + k ≤ length bytes → HasBits (length (take (first + k - first) (drop first bytes)) * 8) n (bits_of_bytes (take (first + k - first) (drop first bytes))) → HasBits (k * 8) n (window bytes first k)
+window-lent bytes first k n inside has =
+    let count : first + k - first ≡ k = omega arith in
+    let long : length (take k (drop first bytes)) ≡ k = length-take-le k (drop first bytes) (rw length-drop (omega arith)) in
+    rw (count, long) at has
+
+-- one byte more of a list
+pub byte_more : (bytes : List ℕ) (k n r : ℕ) → k < length bytes → HasBits (k * 8) n (bits_of_bytes (take k bytes)) → get_or bytes k 0 < 2 ^ 8 →
+    r ≡ n * 2 ^ 8 + get_or bytes k 0 → HasBits ((k + 1) * 8) r (bits_of_bytes (take (k + 1) bytes))
 unfolding bits_of_bytes
-window_more bytes first k n r inside has byte e =
-    let left : k < length (drop first bytes) = rw (length-drop first bytes) (omega arith) in
+byte_more bytes k n r inside has byte e =
     let wider : k * 8 + 8 ≡ (k + 1) * 8 = omega arith in
-    let longer : window bytes first k ++ bits_of 8 (get_or bytes (first + k) 0) ≡ window bytes first (k + 1) =
-    rw (add-one k, take-suc (drop first bytes) k 0 left, bytes-append, append-nil, get_or-drop) in
+    let longer : bits_of_bytes (take k bytes) ++ bits_of 8 (get_or bytes k 0) ≡ bits_of_bytes (take (k + 1) bytes) =
+    rw (add-one k, take-suc bytes k 0 inside, bytes-append, append-nil) in
     rw (← wider, ← longer) (bits-joined 8 has byte e)
+
+-- all of them
+pub bytes_all : (bytes : List ℕ) (k n : ℕ) → k ≡ length bytes → HasBits (k * 8) n (bits_of_bytes (take k bytes)) → HasBits (length bytes * 8) n (bits_of_bytes bytes)
+bytes_all bytes k n all has = rw (all, take_all (length bytes) bytes (omega arith)) at has
 
 -- a field of the window is a field of the whole
 module _ (bytes : List ℕ) (first k n at width past : ℕ) (has : HasBits (k * 8) n (window bytes first k)) (ends : at + width + past ≡ (first + k) * 8) (after : first * 8 ≤ at) where

@@ -1,19 +1,17 @@
 // Numbers of few bits read from lent bytes, most significant bit first.
-ghost use Rattle.std.specs.Prelude.{◌≡◌, ◌+◌, ◌*◌, ◌/◌, ◌%◌, ◌^◌, ◌≤◌, ◌<◌, length, take, drop};
+ghost use Rattle.std.specs.Prelude.{◌≡◌, ◌+◌, ◌*◌, ◌/◌, ◌%◌, ◌^◌, ◌≤◌, ◌<◌, length};
 ghost use Rattle.bits.specs.Bits.{bits_of_bytes, field_at, HasBits};
 
 use crate::masks::{joined, low_bits};
 
-// The number that `count` bytes from byte `first` on are.
-fn joined_bytes(bytes: &[u8], first: usize, count: usize) -> u64
-    requires { (count ≤ 8) × (first + count ≤ length bytes.now) }
-    ensures { HasBits (count * 8) result (bits_of_bytes (take count (drop first bytes.now))) }
+// The number that at most eight bytes are.
+fn joined_bytes(bytes: &[u8]) -> u64
+    requires { length bytes.now ≤ 8 }
+    ensures { HasBits (length bytes.now * 8) result (bits_of_bytes bytes.now) }
 {
-    let mut seen = 0u64;
-    let mut k = 0;
-    while k < count {
-        seen = joined(seen, 8, bytes[first + k] as u64);
-        k += 1;
+    let mut seen = 0;
+    for byte in bytes {
+        seen = joined(seen, 8, u64::from(*byte));
     }
     seen
 }
@@ -25,12 +23,12 @@ pub fn get_bits(bytes: &[u8], at: usize, width: usize) -> u64
 {
     let first = at / 8;
     let wanted = at % 8 + width;
-    if (bytes.len() - first >= 8) & (wanted > 0) {
-        let eight = joined_bytes(bytes, first, 8);
+    if bytes.len() - first >= 8 && wanted > 0 {
+        let eight = joined_bytes(&bytes[first..first + 8]);
         return low_bits(eight >> (64 - wanted), width);
     }
     let count = (wanted + 7) / 8;
-    let seen = joined_bytes(bytes, first, count);
+    let seen = joined_bytes(&bytes[first..first + count]);
     low_bits(seen >> (count * 8 - wanted), width)
 }
 

@@ -12,9 +12,6 @@ use Rattle.bits.proofs.Digits.{length-bits, bits-join, drained}
 use Rattle.bits.proofs.pen.put_bits.Invariants.{stands}
 use Rattle.bits.proofs.pen.put_bits.Goals as goal
 
-pub overflow_add-count : goal.overflow_add-count
-overflow_add-count c = omega (arith, c.requires.ready.few, c.requires.narrow)
-
 pub joined-waiting-requires : goal.joined-waiting-requires
 joined-waiting-requires c = (
   omega (arith, c.requires.narrow),
@@ -37,25 +34,10 @@ loop-count-init c =
       size = refl;
     }
 
-pub overflow_shr-bytes : goal.overflow_shr-bytes
-overflow_shr-bytes c = omega arith
-
 pub overflow_cast-bytes : goal.overflow_cast-bytes
 overflow_cast-bytes c =
     let all : c.loop-count.count ≡ 8 + (c.loop-count.count - 8) = omega arith in
     record { fits = shr_lt 8 (c.loop-count.count - 8) (subst (λ (n : ℕ). c.loop-count.waiting < 2 ^ n) all c.loop-count.invariant.small) }
-
-pub bounds-bytes-at : goal.bounds-bytes-at
-bounds-bytes-at c = omega arith
-
-pub low_bits-waiting-requires : goal.low_bits-waiting-requires
-low_bits-waiting-requires c = omega arith
-
-pub overflow_add-at : goal.overflow_add-at
-overflow_add-at c = omega arith
-
-pub loop-count-smaller : goal.loop-count-smaller
-loop-count-smaller c = omega arith
 
 pub loop-count-preserved : goal.loop-count-preserved
 loop-count-preserved c =

@@ -1,11 +1,7 @@
--- The loop's invariant: `seen` has the bits of the first k bytes.
-use Prim.Native.Nat.{◌-◌, ◌*◌, ◌≤◌}
-use Rattle.bits.specs.Bits.{HasBits}
-use Rattle.bits.proofs.Fields.{window}
+-- A byte a turn: `seen` has the bits of those before.
+use Rattle.std.proofs.Common.{◌*◌, take}
+use Rattle.bits.specs.Bits.{bits_of_bytes, HasBits}
 use Rattle.bits.proofs.reader.joined_bytes.Given as goal
 
-abbrev pub invariant-loop-k : goal.invariant-loop-k
-invariant-loop-k l = (l.k ≤ l.count) × HasBits (l.k * 8) l.seen (window l.bytes l.first l.k)
-
-abbrev pub decreases-loop-k : goal.decreases-loop-k
-decreases-loop-k l = l.count - l.k
+abbrev pub invariant-loop-byte : goal.invariant-loop-byte
+invariant-loop-byte l = HasBits (l.byte-index * 8) l.seen (bits_of_bytes (take l.byte-index l.bytes))
