@@ -14,9 +14,9 @@ unfolding place_at
 length-place set i whole inside = length-take-le place_size (drop (i * place_size) set) (rw (length-drop (i * place_size) set) (omega (arith, whole, inside)))
 
 -- a part of the set that is lent as a place
-pub part-place : (set : List ℕ) (i : ℕ) → take (i * place_size + place_size - i * place_size) (drop (i * place_size) set) ≡ place_at set i
+pub part-place : (set : List ℕ) (i : ℕ) → take ((i + 1) * place_size - i * place_size) (drop (i * place_size) set) ≡ place_at set i
 unfolding place_at
-part-place set i = let size : i * place_size + place_size - i * place_size ≡ place_size = omega arith in ap (λ (n : ℕ). take n (drop (i * place_size) set)) size
+part-place set i = let size : (i + 1) * place_size - i * place_size ≡ place_size = omega arith in ap (λ (n : ℕ). take n (drop (i * place_size) set)) size
 
 -- a place that ends before what is put behind
 place-below : (front behind : List ℕ) (j : ℕ) → j * place_size + place_size ≤ length front → place_at (front ++ behind) j ≡ place_at front j

@@ -1,5 +1,5 @@
 -- A set of cards in lent bytes: its places, and what stands in one. Definitions only.
-use Rattle.std.specs.Prelude.{ℕ, ◌*◌, Bool, true, false, not, ◌&&◌, List, ◌++◌, eqb, take, drop, replicate}
+use Rattle.std.specs.Prelude.{ℕ, ◌*◌, cond, ltb, Option, None, Some, Bool, true, false, not, ◌&&◌, List, ◌++◌, eqb, take, drop, replicate}
 use Rattle.laws.specs.First.{first}
 use Rattle.laws.specs.Front.{front}
 use Rattle.laws.specs.Every.{any_below, every_entry, same_numbers}
@@ -62,6 +62,10 @@ in_place card = front card (replicate place_size 0)
 -- the lowest place with this content; where none has it, the number of places
 unfoldable pub lowest_with : List ℕ → List ℕ → ℕ
 lowest_with content bytes = first (λ (i : ℕ). same_numbers (place_at bytes i) content) places 0
+
+-- a place that was looked for; the number of places stands for none
+abbrev pub found_place : ℕ → Option ℕ
+found_place place = cond (ltb place places) (Some place) None
 
 -- a set's bytes once place i has this content
 unfoldable pub placed : ℕ → List ℕ → List ℕ → List ℕ

@@ -29,5 +29,5 @@ pub returns : goal.returns
 unfolding length_on
 returns c =
     let layout_is : c.layout_or_1-l.result ≡ layout_or1 (layout_on (bits_of_bytes (c.args.place.now))) = c.layout_or_1-l.ensures ∙ ap layout_or1 (c.layout_numbered.ensures ∙ ap (numbered_in layouts) c.number_on.ensures) in
-    c.fewer.ensures
+    c.min.ensures
     ∙ ap (λ (n : ℕ). min n (length (c.args.place.now))) (c.card_size.ensures ∙ ap₂ card_size (layout_is) (c.count_on-count.ensures.0 ∙ ap (λ (l : Layout). count_on l (bits_of_bytes (c.args.place.now))) (layout_is)))
