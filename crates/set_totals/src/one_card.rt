@@ -14,12 +14,18 @@ use card_reader::on_card::{count_on, header_on, segment_on};
 // How many numbers a summary has: 24 totals, the cards, and those without a key.
 pub const SUMMARY_NUMBERS: usize = 26;
 
+// Where the number of cards stands, behind the totals.
+const CARDS: usize = 24;
+
+// Where the number of cards without a key stands.
+const KEYLESS: usize = 25;
+
 // Adds to number k.
 fn raise(numbers: &mut [u64], k: usize, by: u64)
     requires { (k < length numbers.old) × (get_or numbers.old k 0 + by < 2 ^ 64) }
     ensures { numbers.new ≡ raised k by numbers.old }
 {
-    numbers[k] = numbers[k] + by;
+    numbers[k] += by;
 }
 
 // Adds each segment's milliseconds to the total of its key.
@@ -28,13 +34,10 @@ fn add_times(card: &[u8], l: Layout, count: usize, numbers: &mut [u64])
     ensures { numbers.new ≡ more (key_time (meaning_on l (bits_of_bytes card.now))) numbers.old }
 {
     let mut previous = 0;
-    let mut i = 0;
-    while i < count {
+    for i in 0..count {
         let s = segment_on(card, l, i);
-        let end = s.end;
-        raise(numbers, s.key as usize, end - previous);
-        previous = end;
-        i += 1;
+        raise(numbers, s.key as usize, s.end - previous);
+        previous = s.end;
     }
 }
 
@@ -42,7 +45,7 @@ fn add_times(card: &[u8], l: Layout, count: usize, numbers: &mut [u64])
 fn keyless(h: Header) -> u64
     ensures { result ≡ keyless_of h }
 {
-    if h.key == 24 { 1 } else { 0 }
+    u64::from(h.key == 24)
 }
 
 // Adds a card's numbers.
@@ -53,8 +56,8 @@ pub fn add_numbers(card: &[u8], l: Layout, numbers: &mut [u64])
     let count = count_on(card, l);
     let without = keyless(header_on(card, l));
     add_times(card, l, count, numbers);
-    raise(numbers, 24, 1);
-    raise(numbers, 25, without);
+    raise(numbers, CARDS, 1);
+    raise(numbers, KEYLESS, without);
 }
 
 // Takes each of several numbers away.
@@ -62,10 +65,8 @@ fn subtract(numbers: &mut [u64], others: &[u64])
     requires { (length others.now ≡ summary_numbers) × CanTake (λ k. get_or others.now k 0) numbers.old }
     ensures { numbers.new ≡ less (λ k. get_or others.now k 0) numbers.old }
 {
-    let mut k = 0;
-    while k < SUMMARY_NUMBERS {
-        numbers[k] = numbers[k] - others[k];
-        k += 1;
+    for k in 0..SUMMARY_NUMBERS {
+        numbers[k] -= others[k];
     }
 }
 
@@ -74,7 +75,7 @@ pub fn take_numbers(card: &[u8], l: Layout, numbers: &mut [u64])
     requires { (judged_of card.now most_segments ≡ Readable l) × CanTake (card_number (meaning_on l (bits_of_bytes card.now))) numbers.old }
     ensures { numbers.new ≡ less (card_number (meaning_on l (bits_of_bytes card.now))) numbers.old }
 {
-    let mut own = [0; 26];
+    let mut own = [0; SUMMARY_NUMBERS];
     add_numbers(card, l, &mut own);
     subtract(numbers, &own);
 }

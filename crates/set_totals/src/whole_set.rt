@@ -35,12 +35,8 @@ pub fn tally(set: &[u8], numbers: &mut [u64]) -> bool
     ensures { (result ≡ any_spoilt set.now) × (numbers.new ≡ numbers_of (summary_of set.now)) }
 {
     let mut spoilt = false;
-    let mut i = 0;
-    while i < PLACES {
-        let from = i * PLACE_SIZE;
-        let to = from + PLACE_SIZE;
-        spoilt = spoilt | tally_place(&set[from..to], numbers);
-        i += 1;
+    for i in 0..PLACES {
+        spoilt |= tally_place(&set[i * PLACE_SIZE..(i + 1) * PLACE_SIZE], numbers);
     }
     spoilt
 }

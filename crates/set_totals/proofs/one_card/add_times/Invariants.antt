@@ -1,5 +1,4 @@
 -- A segment a turn, added to its key.
-use Prim.Native.Nat.{◌-◌}
 use Rattle.bits.specs.Bits.{bits_of_bytes}
 use Rattle.card_form.specs.Form.{meaning_on}
 use Rattle.set_totals.proofs.Adding.{Added}
@@ -7,6 +6,3 @@ use Rattle.set_totals.proofs.one_card.add_times.Given as goal
 
 abbrev pub invariant-loop-i : goal.invariant-loop-i
 invariant-loop-i l = Added (meaning_on l.l (bits_of_bytes l.card)) l.initial.numbers l.numbers l.previous l.i
-
-abbrev pub decreases-loop-i : goal.decreases-loop-i
-decreases-loop-i l = l.count - l.i

@@ -1,44 +1,34 @@
 -- A number a turn, from the front.
 use mathlib.Core.Path.{◌≡◌, sym, subst}
-use Prim.Native.Nat.{ℕ, ◌+◌, ◌-◌, ◌<◌}
+use Prim.Native.Nat.{ℕ, ◌+◌, ◌-◌}
 use native.Mathlib.Omega.{arith}
-use lib.ListN.{length, get_or, set}
+use lib.ListN.{get_or, set}
 use Rattle.laws.proofs.Front.{Filled, filled-start, filled_more, filled-rest, filled-whole}
 use Rattle.set_totals.specs.inside.Numbers.{summary_numbers, less}
 use Rattle.set_totals.proofs.one_card.subtract.Invariants.{left}
 use Rattle.set_totals.proofs.one_card.subtract.Goals as goal
 
 pub loop-k-init : goal.loop-k-init
-loop-k-init c = (omega arith, filled-start _ _)
+loop-k-init c = filled-start _ _
 
 pub bounds-numbers-k : goal.bounds-numbers-k
-bounds-numbers-k c =
-    let inside : c.loop-k.k < length c.loop-k.numbers = omega (arith, c.loop-k-test.true, c.loop-k.invariant.1.long, c.requires.1.size) in
-    inside
-
-pub bounds-others-k : goal.bounds-others-k
-bounds-others-k c = omega (arith, c.requires.0, c.loop-k-test.true)
+bounds-numbers-k c = omega (arith, c.loop-k.invariant.long, c.requires.1.size)
 
 pub overflow_sub-numbers : goal.overflow_sub-numbers
 overflow_sub-numbers c =
-    let untouched : get_or c.loop-k.numbers c.loop-k.k 0 ≡ get_or c.args.numbers.now c.loop-k.k 0 = filled-rest _ _ _ c.loop-k.k c.loop-k.k 0 c.loop-k.invariant.1 (omega arith) in
+    let untouched : get_or c.loop-k.numbers c.loop-k.k 0 ≡ get_or c.args.numbers.now c.loop-k.k 0 = filled-rest _ _ _ c.loop-k.k c.loop-k.k 0 c.loop-k.invariant (omega arith) in
     omega (arith, c.requires.1.enough c.loop-k.k c.loop-k-test.true, untouched)
-
-pub bounds-numbers-k-in-loop-k : goal.bounds-numbers-k-in-loop-k
-bounds-numbers-k-in-loop-k c =
-    let inside : c.loop-k.k < length c.loop-k.numbers = omega (arith, c.loop-k-test.true, c.loop-k.invariant.1.long, c.requires.1.size) in
-    inside
 
 pub loop-k-preserved : goal.loop-k-preserved
 loop-k-preserved c =
-    let untouched : get_or c.loop-k.numbers c.loop-k.k 0 ≡ get_or c.args.numbers.now c.loop-k.k 0 = filled-rest _ _ _ c.loop-k.k c.loop-k.k 0 c.loop-k.invariant.1 (omega arith) in
     let args = c.args in
     let k = c.loop-k.k in
-    (omega arith, subst (λ (n : ℕ). Filled (left args.others.now args.numbers.now) args.numbers.now (set c.loop-k.numbers k (n - get_or args.others.now k 0)) (k + 1)) (sym (untouched)) (filled_more _ _ _ _ c.loop-k.invariant.1 (omega (arith, c.requires.1.size, c.loop-k-test.true))))
+    let untouched : get_or c.loop-k.numbers k 0 ≡ get_or args.numbers.now k 0 = filled-rest _ _ _ k k 0 c.loop-k.invariant (omega arith) in
+    subst (λ (n : ℕ). Filled (left args.others.now args.numbers.now) args.numbers.now (set c.loop-k.numbers k (n - get_or args.others.now k 0)) (k + 1)) (sym untouched) (filled_more _ _ _ _ c.loop-k.invariant (omega (arith, c.requires.1.size)))
 
 pub shape_of-numbers : goal.shape_of-numbers
-shape_of-numbers c = c.loop-k.invariant.1.long
+shape_of-numbers c = c.loop-k.invariant.long
 
 pub returns : goal.returns
 unfolding less
-returns c = filled-whole _ _ _ _ summary_numbers c.loop-k.invariant.1 (omega arith) (sym c.requires.1.size)
+returns c = filled-whole _ _ _ _ summary_numbers c.loop-k.invariant (omega arith) (sym c.requires.1.size)
