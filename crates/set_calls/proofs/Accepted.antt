@@ -4,12 +4,11 @@ use mathlib.Core.Bool.{Bool, true, false, not}
 use mathlib.Core.List.{List}
 use mathlib.Core.Logic.{inl, inr}
 use Prim.Native.Nat.{ℕ, ◌<◌, ◌≤◌}
-use native.Mathlib.Nat.{zero-add}
+use Rattle.std.proofs.Common.{Option, None, Some}
 use native.Mathlib.Omega.{arith}
 use lib.Dec.{T, ltb}
 use lib.ListN.{length, drop}
 use borrow.Author.Tests.{eq-eqb, ne_eqb, ltb-true, ltb-false, lt-ltb, le-ltb}
-use Rattle.laws.proofs.Cases.{lt-or-ge}
 use Rattle.laws.proofs.First.{first-or-end, first-within}
 use Rattle.laws.proofs.Table.{Reads, here, next, end, reads}
 use Rattle.bits.specs.Bits.{bits_of_bytes}
@@ -19,8 +18,9 @@ use Rattle.card_reader.specs.Reading.{judged_of, read_as}
 use Rattle.card_reader.specs.declared.judge.CardJudged.{CardJudged}
 use Rattle.card_reader.specs.declared.judge.CardJudged.TheVariants.{Refused, Readable}
 use Rattle.laws.specs.Every.{same_numbers}
-use Rattle.set_places.specs.Places.{places, place_size, place_at, read_whole, is_read, lowest_with, placed}
+use Rattle.set_places.specs.Places.{places, place_size, place_at, read_whole, is_read, lowest_with, found_place, placed}
 use Rattle.laws.proofs.Same.{same-is}
+use Rattle.set_places.proofs.Found.{found-some, found-none}
 use Rattle.set_totals.specs.Summary.{summary_of, numbers_of}
 use Rattle.set_calls.specs.Sets.{CardSet, SetOutcome, untrue, refusal_of, set_change, set_outcome, unchanged, changed, set_table, set_call}
 use Rattle.set_calls.specs.inside.Accepted.{accept_table, accepted_as}
@@ -36,6 +36,36 @@ module _ (card : List ℕ) where
 
   refused-by : {number : ℕ} → judged_of card most_segments ≡ Refused number → refusal_of (read_whole card) ≡ number
   refused-by e = ap (λ (j : CardJudged). refusal_of (read_as (bits_of_bytes card) j)) e
+
+-- ---- the place that was looked for
+module _ (content set : List ℕ) where
+  -- place i has the content
+  abbrev has_it : ℕ → Bool
+  has_it i = same_numbers (place_at set i) content
+
+  pub none-found : ◌≡◌ {A = Option ℕ} None (found_place (lowest_with content set)) → lowest_with content set ≡ places
+  unfolding lowest_with
+  none-found e = let far = found-none _ e in let within = first-within has_it places 0 in omega (arith, far, within)
+
+  -- where it is, and what stands there
+  pub record Found (p : ℕ) : Type 0 where
+    pub here : p ≡ lowest_with content set
+    pub inside : p < places
+    pub has : place_at set p ≡ content
+
+  pub found : {p : ℕ} → ◌≡◌ {A = Option ℕ} (Some p) (found_place (lowest_with content set)) → Found p
+  unfolding lowest_with
+  found {p} e =
+      let there = found-some (lowest_with content set) e in
+      record {
+        here = there.0;
+        inside = there.1;
+        has =
+            elim (first-or-end has_it places 0) [
+              | inl passes ↦ same-is (place_at set p) content (subst T (sym (ap has_it there.0 ∙ passes)) tt)
+              | inr all ↦ absurd (omega (arith, there.0, there.1, all))
+            ];
+      }
 
 -- ---- the rows before a place is looked for
 module _ (card : List ℕ) (s : CardSet) where
@@ -115,30 +145,12 @@ module _ (card : List ℕ) (s : CardSet) where
       past r = called (next (of-true s a.set) (next (readable-read card a.readable) (next (le-ltb place_size (length card) a.fits) r)))
 
       -- no place has the content
-      pub call_missing : place ≡ places → unchanged missing s ≡ set_call missing from to card s
-      call_missing p = past (here (eq-eqb place places p))
+      pub call_missing : ◌≡◌ {A = Option ℕ} None (found_place place) → unchanged missing s ≡ set_call missing from to card s
+      call_missing e = past (here (eq-eqb place places (none-found from s.bytes e)))
 
       -- one has it
-      pub call_changed : (place ≡ places → ⊥) → changed place to s ≡ set_call missing from to card s
-      call_changed p = past (next (ne_eqb place places p) end)
-
--- ---- the place that was found
-module _ (content set : List ℕ) {p : ℕ} (e : p ≡ lowest_with content set) (found : p ≡ places → ⊥) where
-  -- place i has the content
-  abbrev has_it : ℕ → Bool
-  has_it i = same_numbers (place_at set i) content
-
-  pub found_inside : p < places
-  unfolding lowest_with
-  found_inside = let within = first-within has_it places 0 in elim (lt-or-ge p places) [ inl less ↦ less | inr far ↦ absurd (found (omega (arith, e, within, far))) ]
-
-  pub found-has : place_at set p ≡ content
-  unfolding lowest_with
-  found-has =
-      elim (first-or-end has_it places 0) [
-        | inl passes ↦ same-is (place_at set p) content (subst T (sym (ap has_it e ∙ passes)) tt)
-        | inr all ↦ absurd (found (e ∙ all ∙ zero-add places))
-      ]
+      pub call_changed : {p : ℕ} → Found from s.bytes p → changed place to s ≡ set_call missing from to card s
+      call_changed f = past (next (ne_eqb place places (λ (e : place ≡ places). omega (arith, e, f.here, f.inside))) end)
 
 -- what was left is the set with that place changed, and its own numbers
 pub left_is : (s : CardSet) (to : List ℕ) {p place : ℕ} {bytes numbers : List ℕ} → p ≡ place → bytes ≡ placed p to s.bytes → numbers ≡ numbers_of (summary_of (placed p to s.bytes)) →

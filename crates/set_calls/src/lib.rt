@@ -2,14 +2,13 @@
 #![tactic(auto)]
 
 ghost use Rattle.std.specs.Prelude.{◌≡◌};
-ghost use Rattle.laws.specs.Every.{same_numbers};
 ghost use Rattle.set_calls.specs.Sets.{lent_set, untrue, set_change, set_outcome, add_call, remove_call};
 ghost use Rattle.set_calls.specs.inside.Accepted.{accepted_as};
 
 use card::layout::MOST_SEGMENTS;
 use card_reader::judge::{CardJudged, judge_card};
-use set_places::places::{PLACE_SIZE, PLACES, SET_SIZE, find_place, put_in_place};
-use set_totals::one_card::{add_numbers, take_numbers};
+use set_places::places::{PLACE_SIZE, SET_SIZE, find_place, put_in_place};
+use set_totals::one_card::{SUMMARY_NUMBERS, add_numbers, take_numbers};
 use set_totals::whole_set::tally;
 
 // The refusal's number, or 0, and which place was changed.
@@ -27,32 +26,16 @@ fn unchanged(refusal: u32) -> SetChange
     SetChange { refusal, place: 0 }
 }
 
-// Whether two slices have the same numbers.
-fn same_numbers(a: &[u64], b: &[u64]) -> bool
-    ensures { result ≡ same_numbers a.now b.now }
-{
-    if !(a.len() == b.len()) {
-        return false;
-    }
-    let mut same = true;
-    let mut i = 0;
-    while i < a.len() {
-        same = same & (a[i] == b[i]);
-        i += 1;
-    }
-    same
-}
-
 // Whether a lent set is of another size, has a spoilt place, or another summary than its own.
 fn is_untrue(set: &[u8], summary: &[u64]) -> bool
     ensures { result ≡ untrue (lent_set set.now summary.now) }
 {
-    if !(set.len() == SET_SIZE) {
+    if set.len() != SET_SIZE {
         return true;
     }
-    let mut fresh = [0; 26];
+    let mut fresh = [0; SUMMARY_NUMBERS];
     let spoilt = tally(set, &mut fresh);
-    spoilt | !same_numbers(summary, &fresh)
+    spoilt || summary != fresh.as_slice()
 }
 
 // What the table says before a place is looked for: a refusal, or the card's layout.
@@ -82,10 +65,9 @@ pub fn add_card(set: &mut [u8], summary: &mut [u64], card: &[u8]) -> SetChange
     match accepted {
         CardJudged::Refused(number) => unchanged(number),
         CardJudged::Readable(l) => {
-            let place = find_place(set, &card[..0]);
-            if place == PLACES {
+            let Some(place) = find_place(set, &[]) else {
                 return unchanged(31);
-            }
+            };
             put_in_place(set, place, card);
             add_numbers(card, l, summary);
             SetChange {
@@ -104,11 +86,10 @@ pub fn remove_card(set: &mut [u8], summary: &mut [u64], card: &[u8]) -> SetChang
     match accepted {
         CardJudged::Refused(number) => unchanged(number),
         CardJudged::Readable(l) => {
-            let place = find_place(set, card);
-            if place == PLACES {
+            let Some(place) = find_place(set, card) else {
                 return unchanged(32);
-            }
-            put_in_place(set, place, &card[..0]);
+            };
+            put_in_place(set, place, &[]);
             take_numbers(card, l, summary);
             SetChange {
                 refusal: 0,

@@ -22,3 +22,16 @@ found-first test (Some i) some =
       | inr below ↦ omega (arith, low, below)
     ] in
     rw (same, lt-ltb i places some.1) refl
+
+-- what was found is the place, inside the set; none is found where the search came to the end
+pub found-some : (place : ℕ) {p : ℕ} → ◌≡◌ {A = Option ℕ} (Some p) (found_place place) → (p ≡ place) × (p < places)
+found-some place {p} e = elim (lt-or-ge place places) [
+  | inl less ↦ let same : p ≡ place = cc (rw (lt-ltb place places less) at e) in (same, omega (arith, same, less))
+  | inr far ↦ absurd (let z : ◌≡◌ {A = ℕ} 0 1 = cc (rw (le-ltb place places far) at e) in omega arith)
+]
+
+pub found-none : (place : ℕ) → ◌≡◌ {A = Option ℕ} None (found_place place) → places ≤ place
+found-none place e = elim (lt-or-ge place places) [
+  | inl less ↦ absurd (let z : ◌≡◌ {A = ℕ} 0 1 = cc (rw (lt-ltb place places less) at e) in omega arith)
+  | inr far ↦ far
+]

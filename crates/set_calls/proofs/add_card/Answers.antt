@@ -1,12 +1,11 @@
 -- A free place is found, filled, and the card's numbers are added.
-use mathlib.Core.Path.{◌≡◌, sym, ap, subst, ◌∙◌}
+use mathlib.Core.Path.{sym, ap, subst, ◌∙◌}
 use mathlib.Core.List.{[]}
-use Prim.Native.Nat.{◌<◌}
 use native.Mathlib.Omega.{arith}
 use lib.ListN.{length}
 use Rattle.bits.specs.Bits.{bits_of_bytes}
 use Rattle.card_form.specs.Form.{meaning_on}
-use Rattle.set_places.specs.Places.{places, place_at, in_place}
+use Rattle.set_places.specs.Places.{in_place}
 use Rattle.set_places.proofs.Zeros.{length-in-place}
 use Rattle.set_places.proofs.Changed.{length-placed}
 use Rattle.set_totals.specs.inside.Numbers.{card_number, more, CanAdd}
@@ -14,25 +13,25 @@ use Rattle.set_totals.proofs.Numbers.{more-long}
 use Rattle.set_totals.proofs.Exchanged.{numbers-added, own-can-add}
 use Rattle.set_calls.specs.Sets.{CardSet, set_outcome}
 use Rattle.set_calls.specs.declared.SetChange.{SetChange}
-use Rattle.set_calls.proofs.Accepted.{Accepted, accepted, call_refused, call_missing, call_changed, found_inside, found-has, left_is}
+use Rattle.set_calls.proofs.Accepted.{Accepted, accepted, call_refused, call_missing, call_changed, found, left_is}
 use Rattle.set_calls.proofs.add_card.Goals as goal
 
-pub find_place-place-requires : goal.find_place-place-requires
-find_place-place-requires c =
+pub find_place-requires : goal.find_place-requires
+find_place-requires c =
     let taken : Accepted (c.args.card.now) ((record { bytes = c.args.set.now; numbers = c.args.summary.now })) c.in-Readable.l = accepted (c.args.card.now) ((record { bytes = c.args.set.now; numbers = c.args.summary.now })) (sym c.accept-accepted.ensures ∙ c.in-Readable.is) in
     let a = taken in (a.set.whole, omega arith)
 
-pub returns-then-place-eq-PLACES : goal.returns-then-place-eq-PLACES
-returns-then-place-eq-PLACES c =
+pub returns-in_default : goal.returns-in_default
+returns-in_default c =
     let taken : Accepted (c.args.card.now) ((record { bytes = c.args.set.now; numbers = c.args.summary.now })) c.in-Readable.l = accepted (c.args.card.now) ((record { bytes = c.args.set.now; numbers = c.args.summary.now })) (sym c.accept-accepted.ensures ∙ c.in-Readable.is) in
-    ap (λ (r : SetChange). set_outcome r ((record { bytes = c.args.set.now; numbers = c.args.summary.now }))) c.unchanged-then-place-eq-PLACES.ensures ∙ call_missing (c.args.card.now) ((record { bytes = c.args.set.now; numbers = c.args.summary.now })) 31 _ _ (taken) (sym c.find_place-place.ensures ∙ c.if-place-eq-PLACES.true)
+    ap (λ (r : SetChange). set_outcome r ((record { bytes = c.args.set.now; numbers = c.args.summary.now }))) c.unchanged-in_default.ensures ∙ call_missing (c.args.card.now) ((record { bytes = c.args.set.now; numbers = c.args.summary.now })) 31 _ _ taken (sym c.in_default.is ∙ c.find_place.ensures)
 
 pub put_in_place-requires : goal.put_in_place-requires
 put_in_place-requires c =
+    let place = found (in_place []) c.args.set.now (sym c.in-Some.is ∙ c.find_place.ensures) in
     let taken : Accepted (c.args.card.now) ((record { bytes = c.args.set.now; numbers = c.args.summary.now })) c.in-Readable.l = accepted (c.args.card.now) ((record { bytes = c.args.set.now; numbers = c.args.summary.now })) (sym c.accept-accepted.ensures ∙ c.in-Readable.is) in
-    let inside : c.find_place-place.result < places = found_inside _ _ c.find_place-place.ensures c.if-place-eq-PLACES.false in
     let a = taken in
-    (a.set.whole, inside, a.fits)
+    (a.set.whole, place.inside, a.fits)
 
 pub add_numbers-requires : goal.add_numbers-requires
 add_numbers-requires c =
@@ -42,30 +41,29 @@ add_numbers-requires c =
 
 pub overflow_cast-result : goal.overflow_cast-result
 overflow_cast-result c =
-    let inside : c.find_place-place.result < places = found_inside _ _ c.find_place-place.ensures c.if-place-eq-PLACES.false in
-    omega (arith, inside)
+    let place = found (in_place []) c.args.set.now (sym c.in-Some.is ∙ c.find_place.ensures) in
+    omega (arith, place.inside)
 
 pub returns-in-Refused : goal.returns-in-Refused
 returns-in-Refused c = ap (λ (r : SetChange). set_outcome r ((record { bytes = c.args.set.now; numbers = c.args.summary.now }))) c.unchanged.ensures ∙ call_refused (c.args.card.now) ((record { bytes = c.args.set.now; numbers = c.args.summary.now })) 31 _ _ (sym c.accept-accepted.ensures ∙ c.in-Refused.is)
 
-pub shape_of-set-else-place-eq-PLACES : goal.shape_of-set-else-place-eq-PLACES
-shape_of-set-else-place-eq-PLACES c =
+pub shape_of-set-in-Some : goal.shape_of-set-in-Some
+shape_of-set-in-Some c =
+    let place = found (in_place []) c.args.set.now (sym c.in-Some.is ∙ c.find_place.ensures) in
     let taken : Accepted (c.args.card.now) ((record { bytes = c.args.set.now; numbers = c.args.summary.now })) c.in-Readable.l = accepted (c.args.card.now) ((record { bytes = c.args.set.now; numbers = c.args.summary.now })) (sym c.accept-accepted.ensures ∙ c.in-Readable.is) in
-    let inside : c.find_place-place.result < places = found_inside _ _ c.find_place-place.ensures c.if-place-eq-PLACES.false in
-    let a = taken in ap length c.put_in_place.ensures ∙ length-placed _ _ a.set.whole (inside) _ (length-in-place _ a.fits) ∙ sym a.set.whole
+    let a = taken in ap length c.put_in_place.ensures ∙ length-placed _ _ a.set.whole place.inside _ (length-in-place _ a.fits) ∙ sym a.set.whole
 
-pub shape_of-summary-else-place-eq-PLACES : goal.shape_of-summary-else-place-eq-PLACES
-shape_of-summary-else-place-eq-PLACES c =
+pub shape_of-summary-in-Some : goal.shape_of-summary-in-Some
+shape_of-summary-in-Some c =
     let taken : Accepted (c.args.card.now) ((record { bytes = c.args.set.now; numbers = c.args.summary.now })) c.in-Readable.l = accepted (c.args.card.now) ((record { bytes = c.args.set.now; numbers = c.args.summary.now })) (sym c.accept-accepted.ensures ∙ c.in-Readable.is) in
     ap length c.add_numbers.ensures ∙ more-long _ _ ∙ sym (ap length (taken).set.summed ∙ (own-can-add c.args.set.now).size)
 
-pub returns-else-place-eq-PLACES : goal.returns-else-place-eq-PLACES
-returns-else-place-eq-PLACES c =
+pub returns-in-Some : goal.returns-in-Some
+returns-in-Some c =
+    let place = found (in_place []) c.args.set.now (sym c.in-Some.is ∙ c.find_place.ensures) in
     let taken : Accepted (c.args.card.now) ((record { bytes = c.args.set.now; numbers = c.args.summary.now })) c.in-Readable.l = accepted (c.args.card.now) ((record { bytes = c.args.set.now; numbers = c.args.summary.now })) (sym c.accept-accepted.ensures ∙ c.in-Readable.is) in
-    let inside : c.find_place-place.result < places = found_inside _ _ c.find_place-place.ensures c.if-place-eq-PLACES.false in
-    let has : place_at c.args.set.now c.find_place-place.result ≡ in_place [] = found-has _ _ c.find_place-place.ensures c.if-place-eq-PLACES.false in
     let a = taken in
     let s : CardSet = (record { bytes = c.args.set.now; numbers = c.args.summary.now }) in
-    left_is s _ c.find_place-place.ensures c.put_in_place.ensures
-    (c.add_numbers.ensures ∙ ap (more ((card_number (meaning_on c.in-Readable.l (bits_of_bytes (c.args.card.now)))))) a.set.summed ∙ numbers-added s.bytes c.find_place-place.result a.set.whole (inside) (c.args.card.now) _ a.fits a.readable (has))
-    ∙ call_changed (c.args.card.now) s 31 _ _ a (λ none. c.if-place-eq-PLACES.false (c.find_place-place.ensures ∙ none))
+    left_is s _ place.here c.put_in_place.ensures
+    (c.add_numbers.ensures ∙ ap (more ((card_number (meaning_on c.in-Readable.l (bits_of_bytes (c.args.card.now)))))) a.set.summed ∙ numbers-added s.bytes c.in-Some.place a.set.whole place.inside (c.args.card.now) _ a.fits a.readable place.has)
+    ∙ call_changed (c.args.card.now) s 31 _ _ a place

@@ -1,23 +1,18 @@
 -- The three tests, of which the last two need a set of its own size.
 use borrow.Author.Tests.{eq-eqb, ne_eqb}
-use mathlib.Core.Path.{◌≡◌, refl, ap, ap₂, ◌∙◌}
-use mathlib.Core.Bool.{Bool, not, ◌||◌}
-use lib.ListN.{length}
-use Rattle.laws.specs.Every.{same_numbers}
-use Rattle.set_places.specs.Places.{set_size}
-use Rattle.set_calls.proofs.Truth.{by_size, by-content}
+use mathlib.Core.Path.{ap, ◌∙◌}
+use mathlib.Core.Bool.{not}
+use Rattle.set_calls.specs.Sets.{lent_set}
+use Rattle.set_calls.proofs.Truth.{by_size, by-spoilt, by-numbers}
 use Rattle.set_calls.proofs.is_untrue.Goals as goal
 
-pub returns-then-not-set : goal.returns-then-not-set
-returns-then-not-set c = by_size ((record { bytes = c.args.set.now; numbers = c.args.summary.now })) (ap not (ne_eqb _ _ c.if-not-set.true))
+pub returns-then-set-ne-SET_SIZE : goal.returns-then-set-ne-SET_SIZE
+returns-then-set-ne-SET_SIZE c = by_size (lent_set c.args.set.now c.args.summary.now) (ap not (ne_eqb _ _ c.if-set-ne-SET_SIZE.true))
 
-pub tally-spoilt-requires : goal.tally-spoilt-requires
-tally-spoilt-requires c =
-    let whole : length c.args.set.now ≡ set_size = c.if-not-set.false in
-    (whole, refl)
+pub returns-then-spoilt : goal.returns-then-spoilt
+returns-then-spoilt c = by-spoilt (lent_set c.args.set.now c.args.summary.now) (ap not (eq-eqb _ _ c.if-set-ne-SET_SIZE.false)) c.tally-spoilt.ensures.0 c.if-spoilt.true
 
-pub returns : goal.returns
-returns c =
-    let tallied = c.tally-spoilt.ensures in
-    ap₂ (λ (a b : Bool). a || not b) tallied.0 (c.same_numbers.ensures ∙ ap (same_numbers c.args.summary.now) tallied.1)
-    ∙ by-content ((record { bytes = c.args.set.now; numbers = c.args.summary.now })) (ap not (eq-eqb _ _ c.if-not-set.false))
+pub returns-else-spoilt : goal.returns-else-spoilt
+returns-else-spoilt c =
+    c.ne.ensures
+    ∙ by-numbers (lent_set c.args.set.now c.args.summary.now) (ap not (eq-eqb _ _ c.if-set-ne-SET_SIZE.false)) c.tally-spoilt.ensures.0 c.if-spoilt.false (c.as_slice.ensures ∙ c.tally-spoilt.ensures.1)
