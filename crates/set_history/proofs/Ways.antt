@@ -3,9 +3,9 @@ use mathlib.Core.Path.{◌≡◌, refl, sym, ap, subst, ◌∙◌}
 use mathlib.Core.Bool.{Bool, true, false, cond}
 use mathlib.Core.List.{List}
 use Prim.Native.Nat.{ℕ, ◌<◌}
+use Rattle.std.proofs.Common.{Option, None, Some}
 use native.Mathlib.Omega.{arith}
 use lib.Dec.{eqb}
-use borrow.Author.Tests.{eqb-true, eqb-false}
 use Rattle.laws.proofs.Table.{fell-through}
 use Rattle.bits.specs.Bits.{bits_of_bytes}
 use Rattle.card.specs.Layout.{most_segments, layout_or1}
@@ -13,10 +13,10 @@ use Rattle.card.specs.declared.layout.Layout.{Layout}
 use Rattle.card_reader.specs.Reading.{layout_on, reading_table, judged_of}
 use Rattle.card_reader.specs.declared.judge.CardJudged.{CardJudged}
 use Rattle.card_reader.specs.declared.judge.CardJudged.TheVariants.{Refused, Readable}
-use Rattle.set_places.specs.Places.{places, place_at, lowest_with}
+use Rattle.set_places.specs.Places.{places, place_at, lowest_with, found_place}
 use Rattle.set_calls.specs.Sets.{CardSet, SetOutcome, unchanged, changed, set_call}
 use Rattle.set_calls.specs.inside.Accepted.{accept_table, accepted_as}
-use Rattle.set_calls.proofs.Accepted.{Accepted, accepted, call_refused, call_missing, call_changed, found_inside, found-has}
+use Rattle.set_calls.proofs.Accepted.{Accepted, accepted, call_refused, call_missing, call_changed, found}
 
 -- ---- no refusal has the number 0
 abbrev is_zero : CardJudged → Bool
@@ -62,12 +62,12 @@ way missing from to card s number = by-card (accepted_as card s) refl
     place : ℕ
     place = lowest_with from s.bytes
 
-    by_place : {l : Layout} → Accepted card s l → (b : Bool) → eqb place places ≡ b → Way missing from to card s (set_call missing from to card s)
-    by_place a true q = subst (Way missing from to card s) (call_missing card s missing from to a (eqb-true place places q)) (refused missing number)
-    by_place {l} a false q =
-        let found = eqb-false place places q in
-        subst (Way missing from to card s) (call_changed card s missing from to a found) (done l a (found_inside from s.bytes refl found) (found-has from s.bytes refl found))
+    by_place : {l : Layout} → Accepted card s l → (r : Option ℕ) → found_place place ≡ r → Way missing from to card s (set_call missing from to card s)
+    by_place a None q = subst (Way missing from to card s) (call_missing card s missing from to a (sym q)) (refused missing number)
+    by_place {l} a (Some p) q =
+        let f = found from s.bytes (sym q) in
+        subst (Way missing from to card s) (call_changed card s missing from to a f) (done l a (omega (arith, f.here, f.inside)) (subst (λ (i : ℕ). place_at s.bytes i ≡ from) f.here f.has))
 
     by-card : (j : CardJudged) → accepted_as card s ≡ j → Way missing from to card s (set_call missing from to card s)
     by-card (Refused n) e = subst (Way missing from to card s) (call_refused card s missing from to e) (refused n (refused-number card s (Refused n) e))
-    by-card (Readable l) e = by_place (accepted card s e) (eqb place places) refl
+    by-card (Readable l) e = by_place (accepted card s e) (found_place place) refl
