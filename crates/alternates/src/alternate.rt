@@ -12,7 +12,6 @@ ghost use Rattle.alternates.specs.inside.Noted.{noted_of, leader_in, standing_of
 
 use conversions::narrow;
 use keys::Key;
-use keys::numbers::key_number;
 use numbers::double::{larger, total_before};
 use timeline::segment::{Segment, segment_seconds, stretch_at};
 
@@ -93,7 +92,7 @@ fn note_segments(reported: u8, count: usize, starts: &[f64], ends: &[f64], keys:
         let segment = stretch_at(i, starts, ends, keys);
         if is_lasting(segment) {
             let own = segment.key;
-            let key = key_number(own);
+            let key = u8::from(own);
             let at = key as usize;
             let length = held_seconds(segment);
             sums[at] = sums[at] + length;
@@ -176,7 +175,7 @@ pub fn alternate_key(
     if total <= 0.0000000000000002220446049250313 {
         return Alternate::Nobody;
     }
-    let noted = note_segments(key_number(reported), count, starts, ends, keys);
+    let noted = note_segments(u8::from(reported), count, starts, ends, keys);
     let rival = find_leader(noted);
     judge(threshold, total, rival)
 }

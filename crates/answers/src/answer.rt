@@ -5,7 +5,6 @@ ghost use Rattle.answers.specs.Answer.{answer_of, keyless, with_alternate};
 
 use alternates::alternate::Alternate;
 use keys::Key;
-use keys::numbers::key_number;
 use numbers::flags::one_if;
 use verdicts::verdict::Verdict;
 
@@ -66,7 +65,7 @@ fn with_key(
 ) -> AnalyseResult
     ensures { result ≡ answer_of 0 0 (key_number reported) alternate coverage verdict.confidence verdict.shapeless counts verdict.chroma }
 {
-    let key = key_number(reported) as u32;
+    let key = u8::from(reported) as u32;
     let shapeless = one_if(verdict.shapeless) as u32;
     let chroma = verdict.chroma;
     AnalyseResult {

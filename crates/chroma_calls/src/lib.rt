@@ -6,7 +6,6 @@ ghost use Rattle.laws.specs.Front.{front};
 ghost use Rattle.chroma_calls.specs.FromChroma.{scores_outcome, scores_call, judged, key_call};
 
 use key_choice::classify::{Classified, classify_key, key_confidence};
-use keys::numbers::key_number;
 use numbers::flags::one_if;
 use numbers::twelve::twelve_values;
 use scores::scoring::score_keys;
@@ -53,7 +52,7 @@ fn judge(classified: Classified) -> KeyResult
     let second = classified.second;
     KeyResult {
         refusal: 0,
-        key: key_number(key) as u32,
+        key: u8::from(key) as u32,
         best,
         second,
         confidence: key_confidence(best, second),

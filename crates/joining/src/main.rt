@@ -7,7 +7,6 @@ ghost use Rattle.laws.specs.Values.{plus_zero};
 ghost use Rattle.keys.specs.Numbers.{key_at};
 ghost use Rattle.joining.specs.Threes.{three, windows_of_three, shortened_three};
 
-use keys::numbers::key_number;
 use numbers::counts::fewer;
 use packed::{milliseconds, number_or};
 use records::{record_at, shorten_records};
@@ -73,7 +72,7 @@ fn print_time(rt: &impl Print, time: f64) -> io::Result<()> {
 
 // Prints a segment: from when to when, its key's number, and how many windows it rests on.
 fn print_segment(rt: &impl Print, segment: Segment) -> io::Result<()> {
-    let number = key_number(segment.key);
+    let number = u8::from(segment.key);
     let windows = segment.windows;
     print!(rt; " [")?;
     print_time(rt, segment.start)?;

@@ -4,7 +4,7 @@ ghost use Rattle.key_choice.specs.Classify.{louder, chosen_key, confidence_of, c
 
 use crate::places::{Places, find_places};
 use keys::Key;
-use keys::numbers::{are_relative_keys, tonic_number};
+use keys::numbers::are_relative_keys;
 use numbers::single::{clamp, magnitude};
 use scores::scoring::score_keys;
 
@@ -22,11 +22,7 @@ pub struct Classified {
 fn is_louder(chroma: &[f32; 12], first: Key, second: Key) -> bool
     ensures { result ≡ louder chroma.now first second }
 {
-    let tonic = first.tonic;
-    let other = second.tonic;
-    let low = tonic_number(tonic) as usize;
-    let high = tonic_number(other) as usize;
-    chroma[high] > chroma[low] * 1.2
+    chroma[usize::from(second.tonic)] > chroma[usize::from(first.tonic)] * 1.2
 }
 
 // The Rust's `disambiguate_relative_keys`: the relative key in second place is taken where the margin

@@ -1,2 +1,3 @@
 -- What the functions' proofs share, and the theorem on numbers.
 pub mod Placed
+pub mod Equal

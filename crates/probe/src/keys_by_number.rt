@@ -2,7 +2,7 @@
 ghost use Rattle.std.specs.Prelude.{◌≡◌};
 ghost use Rattle.keys.specs.Numbers.{key_at, key_number, same_key, are_relative_keys};
 
-use keys::numbers::{are_relative_keys, key_from_index, key_number, same_key};
+use keys::numbers::{are_relative_keys, key_from_index};
 
 // The number of the key with this index.
 #[unsafe(no_mangle)]
@@ -10,7 +10,7 @@ pub extern "C" fn probe_key_number(index: u32) -> u32
     ensures { result ≡ key_number (key_at index) }
 {
     let key = key_from_index(index as usize);
-    key_number(key) as u32
+    u8::from(key) as u32
 }
 
 #[unsafe(no_mangle)]
@@ -19,7 +19,7 @@ pub extern "C" fn probe_same_key(a: u32, b: u32) -> bool
 {
     let first = key_from_index(a as usize);
     let second = key_from_index(b as usize);
-    same_key(first, second)
+    first == second
 }
 
 #[unsafe(no_mangle)]

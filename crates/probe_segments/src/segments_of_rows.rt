@@ -6,7 +6,6 @@ ghost use Rattle.timeline.specs.inside.Segments.{filled_rows, lent_stretches};
 ghost use Rattle.probe_segments.specs.Segments.{probed_majority, all_numbers, few_windows, can_shorten, probed_shorten, stretch_room, probed_reported, probed_answer, probed_alternate, cut_fits, probed_cut, track_of};
 
 use alternates::alternate::{Alternate, alternate_key};
-use keys::numbers::key_number;
 use longest::longest::reported_key;
 use majorities::majority::majority_key;
 use numbers::counts::fewer;
@@ -104,7 +103,7 @@ pub extern "C" fn probe_reported(classified: u8, starts: &[f64], ends: &[f64], k
     let count = stretch_room(starts, ends, keys);
     let key = stored_key(classified);
     let reported = reported_key(key, count, starts, ends, keys);
-    key_number(reported)
+    u8::from(reported)
 }
 
 // Both parts of an alternate's answer.

@@ -7,7 +7,6 @@ ghost use Rattle.std.specs.Prelude.{◌≡◌, ◌+◌, ◌*◌, ◌≤◌, leng
 ghost use Rattle.replayed.specs.Records.{word_at, value_at, same_value, chroma_at, same_scores, same_key, agrees, differing};
 
 use key_choice::classify::{Classified, classify_key, key_confidence};
-use keys::numbers::key_number;
 use numbers::flags::one_if;
 use numbers::single::{from_pattern, order_key};
 
@@ -77,7 +76,7 @@ fn key_agrees(bytes: &[u8], start: usize, found: Classified) -> bool
     let key = found.key;
     let best = found.best;
     let second = found.second;
-    let number = key_number(key) as u32;
+    let number = u8::from(key) as u32;
     let confidence = key_confidence(best, second);
     let shapeless = one_if(found.shapeless) as u32;
     (number == word_at(bytes, start + 144))

@@ -2,7 +2,6 @@
 ghost use Rattle.std.specs.Prelude.{◌≡◌, ◌<◌, length};
 ghost use Rattle.splits.specs.inside.Columns.{splits_in, border_in};
 
-use keys::numbers::same_key;
 use timeline::stored::stored_key;
 
 // Whether window `next` starts a group: another key than window `before`, with confidence enough.
@@ -18,7 +17,7 @@ pub fn is_split(
 {
     let key = stored_key(numbers[next]);
     let other = stored_key(numbers[before]);
-    !same_key(key, other) & (threshold <= certainties[next])
+    (key != other) & (threshold <= certainties[next])
 }
 
 // Midway between the centres of two windows.

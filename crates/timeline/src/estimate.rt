@@ -4,7 +4,6 @@ ghost use Rattle.timeline.specs.Estimates.{lent_estimates, estimate_room};
 ghost use Rattle.timeline.specs.inside.Estimates.{put_estimate};
 
 use keys::Key;
-use keys::numbers::key_number;
 use numbers::counts::fewer;
 use numbers::flags::one_if;
 
@@ -32,7 +31,7 @@ pub fn put_estimate(
 {
     let key = estimate.key;
     centres[n] = estimate.centre;
-    keys[n] = key_number(key);
+    keys[n] = u8::from(key);
     confidences[n] = estimate.confidence;
     shapeless[n] = one_if(estimate.shapeless);
 }

@@ -6,7 +6,6 @@ ghost use Rattle.timeline.specs.inside.Lent.{estimates_lent, columns_lent, SameE
 
 use crate::columns::LentColumns;
 use crate::estimate::Estimate;
-use keys::numbers::key_number;
 
 // Rows of estimates: the middles in seconds, the keys by number, how sure they are, and 1 where the chroma has no shape.
 #[derive(Drop)]
@@ -25,7 +24,7 @@ impl LentEstimates<'_> {
         ensures rows { estimates_lent self.new ≡ put_estimate estimate n (estimates_lent self.old) }
     {
         self.centres[n] = estimate.centre;
-        self.keys[n] = key_number(estimate.key);
+        self.keys[n] = u8::from(estimate.key);
         self.confidences[n] = estimate.confidence;
         self.shapeless[n] = u8::from(estimate.shapeless);
     }

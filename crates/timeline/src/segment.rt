@@ -5,7 +5,6 @@ ghost use Rattle.timeline.specs.inside.Segments.{Joinable, put_segment, seconds_
 
 use crate::stored::stored_key;
 use keys::Key;
-use keys::numbers::key_number;
 use numbers::counts::fewer;
 use numbers::double::{larger, smaller};
 
@@ -81,7 +80,7 @@ pub fn put_segment(
     let key = segment.key;
     starts[n] = segment.start;
     ends[n] = segment.end;
-    keys[n] = key_number(key);
+    keys[n] = u8::from(key);
     confidences[n] = segment.confidence;
     counts[n] = segment.windows;
 }

@@ -7,7 +7,6 @@ ghost use Rattle.timeline.specs.inside.Lent.{segments_lent, stretches_lent, Same
 use crate::segment::Segment;
 use crate::stored::stored_key;
 use crate::stretches::LentStretches;
-use keys::numbers::key_number;
 
 // Rows of segments: from when to when in seconds, the keys by number, how sure they are, and how many windows they rest on.
 #[derive(Drop)]
@@ -28,7 +27,7 @@ impl LentSegments<'_> {
     {
         self.starts[n] = segment.start;
         self.ends[n] = segment.end;
-        self.keys[n] = key_number(segment.key);
+        self.keys[n] = u8::from(segment.key);
         self.confidences[n] = segment.confidence;
         self.counts[n] = segment.windows;
     }

@@ -4,4 +4,4 @@ use Rattle.chroma_calls.proofs.judge.Goals as goal
 
 pub returns : goal.returns
 unfolding judged
-returns c = rw (c.one_if.ensures, c.key_confidence.ensures, c.key_number.ensures)
+returns c = rw (c.one_if.ensures, c.key_confidence.ensures, c.from.ensures)

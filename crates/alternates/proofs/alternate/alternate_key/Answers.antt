@@ -21,18 +21,18 @@ returns-then-total c = all-instants ((lent_stretches c.args.starts.now c.args.en
 
 pub note_segments-noted-requires : goal.note_segments-noted-requires
 note_segments-noted-requires c =
-    let numbered : c.key_number.result < 24 = subst (λ (n : ℕ). n < 24) (sym c.key_number.ensures) (numbers-are-keys.below c.args.reported) in
+    let numbered : c.from.result < 24 = subst (λ (n : ℕ). n < 24) (sym c.from.ensures) (numbers-are-keys.below c.args.reported) in
     (numbered, search rules)
 
 pub find_leader-rival-requires : goal.find_leader-rival-requires
 find_leader-rival-requires c =
-    let numbered : c.key_number.result < 24 = subst (λ (n : ℕ). n < 24) (sym c.key_number.ensures) (numbers-are-keys.below c.args.reported) in
-    noted-fits c.key_number.result (numbered) ((stretches_in ((lent_stretches c.args.starts.now c.args.ends.now c.args.keys.now)) c.args.count)) c.note_segments-noted.ensures
+    let numbered : c.from.result < 24 = subst (λ (n : ℕ). n < 24) (sym c.from.ensures) (numbers-are-keys.below c.args.reported) in
+    noted-fits c.from.result (numbered) ((stretches_in ((lent_stretches c.args.starts.now c.args.ends.now c.args.keys.now)) c.args.count)) c.note_segments-noted.ensures
 
 pub returns : goal.returns
 unfolding of_bits
 returns c =
-    let numbered : c.key_number.result < 24 = subst (λ (n : ℕ). n < 24) (sym c.key_number.ensures) (numbers-are-keys.below c.args.reported) in
-    let rival = c.find_leader-rival.ensures ∙ rival-told c.key_number.result (numbered) ((stretches_in ((lent_stretches c.args.starts.now c.args.ends.now c.args.keys.now)) c.args.count)) c.note_segments-noted.ensures ∙ ap (λ (key : ℕ). rival_of key ((stretches_in ((lent_stretches c.args.starts.now c.args.ends.now c.args.keys.now)) c.args.count))) c.key_number.ensures in
+    let numbered : c.from.result < 24 = subst (λ (n : ℕ). n < 24) (sym c.from.ensures) (numbers-are-keys.below c.args.reported) in
+    let rival = c.find_leader-rival.ensures ∙ rival-told c.from.result (numbered) ((stretches_in ((lent_stretches c.args.starts.now c.args.ends.now c.args.keys.now)) c.args.count)) c.note_segments-noted.ensures ∙ ap (λ (key : ℕ). rival_of key ((stretches_in ((lent_stretches c.args.starts.now c.args.ends.now c.args.keys.now)) c.args.count))) c.from.ensures in
     c.judge.ensures
     ∙ rival-named ((lent_stretches c.args.starts.now c.args.ends.now c.args.keys.now)) c.args.count (key_number c.args.reported) c.args.threshold c.if-threshold-count.false c.total_seconds-total.ensures c.if-total.false rival

@@ -30,46 +30,46 @@ unfolding list of_bits
 loop-i-init c = (zero-le, noting-start c.args.reported c.requires.0)
 
 pub overflow_cast-at : goal.overflow_cast-at
-overflow_cast-at c = omega (arith, placed _ c.key_number-key.ensures)
+overflow_cast-at c = omega (arith, placed _ c.from-key.ensures)
 
 pub offset_bounds-sums-at : goal.offset_bounds-sums-at
-offset_bounds-sums-at c = omega (arith, placed _ c.key_number-key.ensures)
+offset_bounds-sums-at c = omega (arith, placed _ c.from-key.ensures)
 
 pub bounds-sums-at : goal.bounds-sums-at
-bounds-sums-at c = placed _ c.key_number-key.ensures
+bounds-sums-at c = placed _ c.from-key.ensures
 
 pub offset_bounds-sums-at-then-is_lasting : goal.offset_bounds-sums-at-then-is_lasting
-offset_bounds-sums-at-then-is_lasting c = omega (arith, placed _ c.key_number-key.ensures)
+offset_bounds-sums-at-then-is_lasting c = omega (arith, placed _ c.from-key.ensures)
 
 pub bounds-sums-at-then-is_lasting : goal.bounds-sums-at-then-is_lasting
-bounds-sums-at-then-is_lasting c = placed _ c.key_number-key.ensures
+bounds-sums-at-then-is_lasting c = placed _ c.from-key.ensures
 
 pub bounds-known-at : goal.bounds-known-at
-bounds-known-at c = placed _ c.key_number-key.ensures
+bounds-known-at c = placed _ c.from-key.ensures
 
 pub bounds-known-at-then-not-known-at : goal.bounds-known-at-then-not-known-at
-bounds-known-at-then-not-known-at c = placed _ c.key_number-key.ensures
+bounds-known-at-then-not-known-at c = placed _ c.from-key.ensures
 
 pub bounds-order-met : goal.bounds-order-met
 bounds-order-met c =
-    unmet-fits c.args.reported _ _ _ _ _ c.loop-i.invariant.1 c.stretch_at-segment.result (sym c.is_lasting.ensures ∙ c.if-is_lasting.true) _ c.key_number-key.ensures _ c.if-not-known-at.true
+    unmet-fits c.args.reported _ _ _ _ _ c.loop-i.invariant.1 c.stretch_at-segment.result (sym c.is_lasting.ensures ∙ c.if-is_lasting.true) _ c.from-key.ensures _ c.if-not-known-at.true
 
 pub overflow_add-met : goal.overflow_add-met
 overflow_add-met c =
-    omega (arith, unmet-fits c.args.reported _ _ _ _ _ c.loop-i.invariant.1 c.stretch_at-segment.result (sym c.is_lasting.ensures ∙ c.if-is_lasting.true) _ c.key_number-key.ensures _ c.if-not-known-at.true)
+    omega (arith, unmet-fits c.args.reported _ _ _ _ _ c.loop-i.invariant.1 c.stretch_at-segment.result (sym c.is_lasting.ensures ∙ c.if-is_lasting.true) _ c.from-key.ensures _ c.if-not-known-at.true)
 
 pub loop-i-preserved-then-not-known-at : goal.loop-i-preserved-then-not-known-at
 loop-i-preserved-then-not-known-at c =
     let rows : Stretches = lent_stretches c.args.starts.now c.args.ends.now c.args.keys.now in
     let lasts = sym c.is_lasting.ensures ∙ c.if-is_lasting.true in
-    let more = noting-new c.args.reported (stretches_in rows c.loop-i.i) _ _ _ _ c.loop-i.invariant.1 c.stretch_at-segment.result lasts _ c.key_number-key.ensures _ (ap (add binary64 _) c.held_seconds-length.ensures) _ c.if-not-known-at.true in
+    let more = noting-new c.args.reported (stretches_in rows c.loop-i.i) _ _ _ _ c.loop-i.invariant.1 c.stretch_at-segment.result lasts _ c.from-key.ensures _ (ap (add binary64 _) c.held_seconds-length.ensures) _ c.if-not-known-at.true in
     (omega (arith, c.loop-i-test.true), noted-next rows c.loop-i.i c.stretch_at-segment.ensures more)
 
 pub loop-i-preserved-else-not-known-at : goal.loop-i-preserved-else-not-known-at
 loop-i-preserved-else-not-known-at c =
     let rows : Stretches = lent_stretches c.args.starts.now c.args.ends.now c.args.keys.now in
     let lasts = sym c.is_lasting.ensures ∙ c.if-is_lasting.true in
-    let more = noting-known c.args.reported (stretches_in rows c.loop-i.i) _ _ _ _ c.loop-i.invariant.1 c.stretch_at-segment.result lasts _ c.key_number-key.ensures _ (ap (add binary64 _) c.held_seconds-length.ensures) _ c.if-not-known-at.false in
+    let more = noting-known c.args.reported (stretches_in rows c.loop-i.i) _ _ _ _ c.loop-i.invariant.1 c.stretch_at-segment.result lasts _ c.from-key.ensures _ (ap (add binary64 _) c.held_seconds-length.ensures) _ c.if-not-known-at.false in
     (omega (arith, c.loop-i-test.true), noted-next rows c.loop-i.i c.stretch_at-segment.ensures more)
 
 pub loop-i-preserved : goal.loop-i-preserved

@@ -3,4 +3,4 @@ use mathlib.Core.Path.{◌∙◌}
 use Rattle.probe.proofs.keys_by_number.probe_key_number.Goals as goal
 
 pub returns : goal.returns
-returns c = c.key_number.ensures ∙ rw c.key_from_index-key.ensures
+returns c = c.from.ensures ∙ rw c.key_from_index-key.ensures

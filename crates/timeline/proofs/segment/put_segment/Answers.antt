@@ -10,4 +10,4 @@ returns c =
     let args = c.args in
     let segment = args.segment in
     let n = args.n in
-    ap (λ (number : ℕ). segment_rows (set args.starts.now n segment.start) (set args.ends.now n segment.end) (set args.keys.now n number) (set args.confidences.now n segment.confidence) (set args.counts.now n segment.windows)) c.key_number.ensures
+    ap (λ (number : ℕ). segment_rows (set args.starts.now n segment.start) (set args.ends.now n segment.end) (set args.keys.now n number) (set args.confidences.now n segment.confidence) (set args.counts.now n segment.windows)) c.from.ensures
