@@ -1,7 +1,8 @@
 -- Each arm is an outcome of what the table says.
+use Rattle.std.proofs.Common.{rules}
 use mathlib.Core.Path.{◌≡◌, sym, ap, ◌∙◌}
 use mathlib.Core.List.{List}
-use Prim.Native.Nat.{ℕ, ◌*◌, ◌≤◌, min}
+use Prim.Native.Nat.{ℕ, ◌*◌, ◌≤◌}
 use native.Mathlib.Omega.{arith}
 use lib.ListN.{length}
 use Rattle.card.specs.declared.layout.Layout.{Layout}
@@ -14,9 +15,8 @@ use Rattle.read_call.proofs.Outcomes.{card-refused, card-read}
 use Rattle.read_call.proofs.read_card.Goals as goal
 
 -- what the table says, with as many rows as the code counted
-told : (bytes : List ℕ) (lent : CardRows) {two three rows : ℕ} {j : CardJudged} → two ≡ min (length lent.keys) (length lent.confidences) → three ≡ min (length lent.ends) two → rows ≡ min (length lent.starts) three → j ≡ judged_of bytes rows → judged_of bytes (rows_in lent) ≡ j
-told bytes lent a b e j =
-    sym (j ∙ ap (judged_of bytes) (e ∙ ap (min (length lent.starts)) (b ∙ ap (min (length lent.ends)) a)))
+told : (bytes : List ℕ) (lent : CardRows) {rows : ℕ} {j : CardJudged} → rows ≡ rows_in lent → j ≡ judged_of bytes rows → judged_of bytes (rows_in lent) ≡ j
+told bytes lent e j = sym (j ∙ ap (judged_of bytes) e)
 
 -- the header of a card that is readable is there
 headed : {bytes : List ℕ} {rows : ℕ} {l : Layout} → Ready bytes rows l → header_width l ≤ length bytes * 8
@@ -25,13 +25,13 @@ headed card = omega (arith, card.sound.fits.count, card.long)
 pub count_on-count-requires : goal.count_on-count-requires
 count_on-count-requires c =
     let lent : CardRows = lent_card_rows c.args.starts.now c.args.ends.now c.args.keys.now c.args.confidences.now in
-    let card = ready _ _ c.in-Readable.l (told c.args.bytes.now lent c.fewer.ensures c.fewer-2.ensures c.fewer-rows.ensures c.judge_card-judged.ensures ∙ c.in-Readable.is) in
+    let card = ready _ _ c.in-Readable.l (told c.args.bytes.now lent c.room.ensures c.judge_card-judged.ensures ∙ c.in-Readable.is) in
     (card.sound.fits, headed card)
 
 pub read_segments-requires : goal.read_segments-requires
 read_segments-requires c =
     let lent : CardRows = lent_card_rows c.args.starts.now c.args.ends.now c.args.keys.now c.args.confidences.now in
-    let card = ready _ _ c.in-Readable.l (told c.args.bytes.now lent c.fewer.ensures c.fewer-2.ensures c.fewer-rows.ensures c.judge_card-judged.ensures ∙ c.in-Readable.is) in
+    let card = ready _ _ c.in-Readable.l (told c.args.bytes.now lent c.room.ensures c.judge_card-judged.ensures ∙ c.in-Readable.is) in
     let same = c.count_on-count.ensures.0 in
     record {
       layout = card.sound.fits;
@@ -45,22 +45,23 @@ read_segments-requires c =
 pub header_on-requires : goal.header_on-requires
 header_on-requires c =
     let lent : CardRows = lent_card_rows c.args.starts.now c.args.ends.now c.args.keys.now c.args.confidences.now in
-    let card = ready _ _ c.in-Readable.l (told c.args.bytes.now lent c.fewer.ensures c.fewer-2.ensures c.fewer-rows.ensures c.judge_card-judged.ensures ∙ c.in-Readable.is) in
+    let card = ready _ _ c.in-Readable.l (told c.args.bytes.now lent c.room.ensures c.judge_card-judged.ensures ∙ c.in-Readable.is) in
     (card.sound.fits, headed card)
 
 pub read_answer-requires : goal.read_answer-requires
 read_answer-requires c =
     let lent : CardRows = lent_card_rows c.args.starts.now c.args.ends.now c.args.keys.now c.args.confidences.now in
-    let small = header-small (ready _ _ c.in-Readable.l (told c.args.bytes.now lent c.fewer.ensures c.fewer-2.ensures c.fewer-rows.ensures c.judge_card-judged.ensures ∙ c.in-Readable.is)) in
+    let small = header-small (ready _ _ c.in-Readable.l (told c.args.bytes.now lent c.room.ensures c.judge_card-judged.ensures ∙ c.in-Readable.is)) in
     let h = c.header_on.ensures in
     rw h (omega (arith, small.key), omega (arith, small.dsp), omega (arith, small.alternate), omega (arith, small.coverage), omega (arith, small.confidence))
 
 pub returns-in-Refused : goal.returns-in-Refused
 returns-in-Refused c =
     let lent : CardRows = lent_card_rows c.args.starts.now c.args.ends.now c.args.keys.now c.args.confidences.now in
-    card-refused _ lent _ (told c.args.bytes.now lent c.fewer.ensures c.fewer-2.ensures c.fewer-rows.ensures c.judge_card-judged.ensures ∙ c.in-Refused.is) c.unread_card.ensures
+    card-refused _ lent _ (told c.args.bytes.now lent c.room.ensures c.judge_card-judged.ensures ∙ c.in-Refused.is) c.unread_card.ensures
 
 pub returns-in-Readable : goal.returns-in-Readable
 returns-in-Readable c =
     let lent : CardRows = lent_card_rows c.args.starts.now c.args.ends.now c.args.keys.now c.args.confidences.now in
-    card-read _ lent c.in-Readable.l (told c.args.bytes.now lent c.fewer.ensures c.fewer-2.ensures c.fewer-rows.ensures c.judge_card-judged.ensures ∙ c.in-Readable.is) c.count_on-count.ensures.0 c.header_on.ensures c.read_answer.ensures c.read_segments.ensures
+    let read = card-read _ lent c.in-Readable.l (told c.args.bytes.now lent c.room.ensures c.judge_card-judged.ensures ∙ c.in-Readable.is) c.count_on-count.ensures.0 c.header_on.ensures c.read_answer.ensures c.read_segments.ensures.rows in
+    search (rules, read)
