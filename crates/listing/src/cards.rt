@@ -26,15 +26,10 @@ fn write_lines(card: &[u8], l: Layout, count: usize, bytes: &mut [u8]) -> usize
 {
     let mut start = 0;
     let mut at = 0;
-    let mut i = 0;
-    while i < count {
+    for i in 0..count {
         let s = segment_on(card, l, i);
-        let end = s.end;
-        let key = s.key;
-        let size = write_line(start, end, key, &mut bytes[at..]);
-        at += size;
-        start = end;
-        i += 1;
+        at += write_line(start, s.end, s.key, &mut bytes[at..]);
+        start = s.end;
     }
     at
 }

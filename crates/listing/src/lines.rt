@@ -64,10 +64,6 @@ pub fn write_bytes(text: &[u8], bytes: &mut [u8]) -> usize
     requires { length text.now ≤ length bytes.old }
     ensures { AtFront text.now bytes.old bytes.new result }
 {
-    let mut i = 0;
-    while i < text.len() {
-        bytes[i] = text[i];
-        i += 1;
-    }
-    i
+    bytes[..text.len()].copy_from_slice(text);
+    text.len()
 }
