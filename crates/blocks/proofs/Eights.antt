@@ -9,7 +9,6 @@ use Rattle.filters.specs.inside.Alone.{four_alone}
 use Rattle.filters.specs.declared.four.Four.{Four}
 use Rattle.constant_q.specs.inside.Lanes.{FourLie, lane_power, four_delays}
 use Rattle.constant_q.specs.declared.lanes.Lane.{Lane}
-use Rattle.constant_q.specs.declared.lanes.Lanes.{Lanes}
 use Rattle.blocks.specs.inside.Eight.{later_by, four_apart, EightLie, eight_delays, powers_left, eight_powers}
 use Rattle.blocks.specs.declared.eight.Eight.{Eight}
 
@@ -37,7 +36,7 @@ module _ (samples windows : List Float) (hop : ℕ) (lane : Lane) where
   eight-same : {a b c d e f g h a' b' c' d' e' f' g' h' : Float} → a ≡ a' → b ≡ b' → c ≡ c' → d ≡ d' → e ≡ e' → f ≡ f' → g ≡ g' → h ≡ h' → (a ∷ b ∷ c ∷ d ∷ e ∷ f ∷ g ∷ h ∷ []) ≡ (a' ∷ b' ∷ c' ∷ d' ∷ e' ∷ f' ∷ g' ∷ h' ∷ [])
   eight-same p q r s t u v w = rw (p, q, r, s, t, u, v, w)
 
-  abbrev powers_at : Lanes → Lanes → List Float
+  abbrev powers_at : Four Lane → Four Lane → List Float
   powers_at early late =
       let first = powers_left early (four_delays samples windows early lane.count) in
       let second = powers_left late (four_delays samples windows late lane.count) in
@@ -55,7 +54,7 @@ module _ (samples windows : List Float) (hop : ℕ) (lane : Lane) where
       let h : s + 4 * hop + 3 * hop ≡ s + 7 * hop = omega arith in
       eight-same (ap from a) (ap from b) refl refl refl (ap from f) (ap from g) (ap from h)
 
-  pub eight-told : {early late : Lanes} {state : Eight} {first second : Four} → early ≡ four_apart hop lane → late ≡ four_apart hop (later_by (4 * hop) lane) → state ≡ eight_delays samples windows early late lane.count → first ≡ powers_left early state.early → second ≡ powers_left late state.late
+  pub eight-told : {early late : Four Lane} {state : Eight} {first second : Four Float} → early ≡ four_apart hop lane → late ≡ four_apart hop (later_by (4 * hop) lane) → state ≡ eight_delays samples windows early late lane.count → first ≡ powers_left early state.early → second ≡ powers_left late state.late
       → (first.a ∷ first.b ∷ first.c ∷ first.d ∷ second.a ∷ second.b ∷ second.c ∷ second.d ∷ []) ≡ eight_powers samples windows hop lane
   unfolding eight_delays
   eight-told e l s p q = rw (p, q, s, e, l) told-by-starts

@@ -3,14 +3,15 @@ ghost use Rattle.std.specs.Prelude.{◌≡◌, ◌+◌, ◌*◌, ◌^◌, ◌<�
 ghost use Rattle.constant_q.specs.inside.Lanes.{FourLie, fewest_of};
 ghost use Rattle.blocks.specs.inside.Eight.{later_by, four_apart, EightLie, eight_delays, powers_left, eight_powers};
 
-use constant_q::lanes::{Lane, Lanes, power_per_count, step_lanes};
-use filters::four::{Delays, Four, four_at_rest};
+use constant_q::lanes::{Lane, power_per_count, step_lanes};
+use filters::four::{Four, four_at_rest};
+use filters::resonator::Delay;
 
 // The delayed values of eight resonators: of the four earlier positions and of the four later ones.
 #[derive(Clone, Copy)]
 pub struct Eight {
-    pub early: Delays,
-    pub late: Delays,
+    pub early: Four<Delay>,
+    pub late: Four<Delay>,
 }
 
 // The same row some samples later.
@@ -25,18 +26,26 @@ fn later(lane: Lane, by: usize) -> Lane
 }
 
 // A row at four positions, a hop apart.
-fn four_apart(lane: Lane, hop: usize) -> Lanes
+fn four_apart(lane: Lane, hop: usize) -> Four<Lane>
     requires { lane.start + 3 * hop < 2 ^ 64 }
     ensures { result ≡ four_apart hop lane }
 {
-    let b = later(lane, hop);
-    let c = later(lane, 2 * hop);
-    let d = later(lane, 3 * hop);
-    Lanes { a: lane, b, c, d }
+    Four {
+        a: lane,
+        b: later(lane, hop),
+        c: later(lane, 2 * hop),
+        d: later(lane, 3 * hop),
+    }
 }
 
 // The first n values of twice four lanes, all side by side.
-fn run_eight(samples: &[f32], windows: &[f32], early: Lanes, late: Lanes, n: usize) -> Eight
+fn run_eight(
+    samples: &[f32],
+    windows: &[f32],
+    early: Four<Lane>,
+    late: Four<Lane>,
+    n: usize,
+) -> Eight
     requires { FourLie (length samples.now) (length windows.now) early × FourLie (length samples.now) (length windows.now) late × (n ≤ fewest_of early) × (n ≤ fewest_of late) }
     ensures { result ≡ eight_delays samples.now windows.now early late n }
 {
@@ -54,15 +63,11 @@ fn run_eight(samples: &[f32], windows: &[f32], early: Lanes, late: Lanes, n: usi
 }
 
 // The powers that four resonators end with.
-fn powers_left(lanes: Lanes, delays: Delays) -> Four
+fn powers_left(lanes: Four<Lane>, delays: Four<Delay>) -> Four<f32>
     requires { (lanes.a.count < 0x1_0000_0000) × (lanes.b.count < 0x1_0000_0000) × (lanes.c.count < 0x1_0000_0000) × (lanes.d.count < 0x1_0000_0000) }
     ensures { result ≡ powers_left lanes delays }
 {
-    let a = power_per_count(lanes.a, delays.a);
-    let b = power_per_count(lanes.b, delays.b);
-    let c = power_per_count(lanes.c, delays.c);
-    let d = power_per_count(lanes.d, delays.d);
-    Four { a, b, c, d }
+    lanes.with(delays, power_per_count)
 }
 
 // The powers of a row at eight positions, a hop apart.

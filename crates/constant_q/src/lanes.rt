@@ -5,7 +5,7 @@ ghost use Rattle.filters.specs.Resonator.{power_of};
 ghost use Rattle.constant_q.specs.ConstantQ.{per_count};
 ghost use Rattle.constant_q.specs.inside.Lanes.{Lies, FourLie, lane_value, lane_delay, lane_power, four_values, four_coefficients, stepped_lanes, fewest_of, four_delays, four_powers};
 
-use filters::four::{Delays, Four, four_at_rest, step_four};
+use filters::four::{Four, four_at_rest, step_four};
 use filters::resonator::{Delay, at_rest, power, step};
 use numbers::single::larger;
 
@@ -16,15 +16,6 @@ pub struct Lane {
     pub first: usize,
     pub count: usize,
     pub coefficient: f32,
-}
-
-// Four rows.
-#[derive(Clone, Copy)]
-pub struct Lanes {
-    pub a: Lane,
-    pub b: Lane,
-    pub c: Lane,
-    pub d: Lane,
 }
 
 // Value i of a lane.
@@ -75,37 +66,28 @@ pub fn lane_power(samples: &[f32], windows: &[f32], lane: Lane) -> f32
 }
 
 // Value i of each of four lanes.
-fn four_values(samples: &[f32], windows: &[f32], lanes: Lanes, i: usize) -> Four
+fn four_values(samples: &[f32], windows: &[f32], lanes: Four<Lane>, i: usize) -> Four<f32>
     requires { FourLie (length samples.now) (length windows.now) lanes × (i < fewest_of lanes) }
     ensures { result ≡ four_values samples.now windows.now lanes i }
 {
-    let a = lane_value(samples, windows, lanes.a, i);
-    let b = lane_value(samples, windows, lanes.b, i);
-    let c = lane_value(samples, windows, lanes.c, i);
-    let d = lane_value(samples, windows, lanes.d, i);
-    Four { a, b, c, d }
+    lanes.map(|lane| lane_value(samples, windows, lane, i))
 }
 
 // How the resonators of four lanes are tuned.
-fn four_coefficients(lanes: Lanes) -> Four
+fn four_coefficients(lanes: Four<Lane>) -> Four<f32>
     ensures { result ≡ four_coefficients lanes }
 {
-    Four {
-        a: lanes.a.coefficient,
-        b: lanes.b.coefficient,
-        c: lanes.c.coefficient,
-        d: lanes.d.coefficient,
-    }
+    lanes.map(|lane| lane.coefficient)
 }
 
 // Four resonators after value i of each lane.
 pub fn step_lanes(
     samples: &[f32],
     windows: &[f32],
-    lanes: Lanes,
+    lanes: Four<Lane>,
     i: usize,
-    delays: Delays,
-) -> Delays
+    delays: Four<Delay>,
+) -> Four<Delay>
     requires { FourLie (length samples.now) (length windows.now) lanes × (i < fewest_of lanes) }
     ensures { result ≡ stepped_lanes samples.now windows.now lanes i delays }
 {
@@ -114,7 +96,7 @@ pub fn step_lanes(
 }
 
 // The first n values of four lanes, side by side.
-fn run_four(samples: &[f32], windows: &[f32], lanes: Lanes, n: usize) -> Delays
+fn run_four(samples: &[f32], windows: &[f32], lanes: Four<Lane>, n: usize) -> Four<Delay>
     requires { FourLie (length samples.now) (length windows.now) lanes × (n ≤ fewest_of lanes) }
     ensures { result ≡ four_delays samples.now windows.now lanes n }
 {
@@ -126,7 +108,7 @@ fn run_four(samples: &[f32], windows: &[f32], lanes: Lanes, n: usize) -> Delays
 }
 
 // The count that all four lanes reach.
-fn fewest(lanes: Lanes) -> usize
+fn fewest(lanes: Four<Lane>) -> usize
     ensures { result ≡ fewest_of lanes }
 {
     let early = lanes.a.count.min(lanes.b.count);
@@ -134,15 +116,14 @@ fn fewest(lanes: Lanes) -> usize
 }
 
 // The powers of four lanes: side by side as far as all reach, then each by itself.
-pub fn four_powers(samples: &[f32], windows: &[f32], lanes: Lanes) -> Four
+pub fn four_powers(samples: &[f32], windows: &[f32], lanes: Four<Lane>) -> Four<f32>
     requires { FourLie (length samples.now) (length windows.now) lanes }
     ensures { result ≡ four_powers samples.now windows.now lanes }
 {
     let n = fewest(lanes);
     let delays = run_four(samples, windows, lanes, n);
-    let a = finish_lane(samples, windows, lanes.a, n, delays.a);
-    let b = finish_lane(samples, windows, lanes.b, n, delays.b);
-    let c = finish_lane(samples, windows, lanes.c, n, delays.c);
-    let d = finish_lane(samples, windows, lanes.d, n, delays.d);
-    Four { a, b, c, d }
+    lanes.with(
+        delays,
+        |lane, delay| finish_lane(samples, windows, lane, n, delay),
+    )
 }

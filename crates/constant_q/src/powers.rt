@@ -6,9 +6,9 @@ ghost use Rattle.sheets.specs.Sheet.{joined_length};
 ghost use Rattle.constant_q.specs.inside.Lanes.{four_powers};
 ghost use Rattle.constant_q.specs.inside.Powers.{lane_of, power_at, powers_of, Readable, placed_at, lanes_from, four_from};
 
-use crate::lanes::{Lane, Lanes, four_powers, lane_power};
+use crate::lanes::{Lane, four_powers, lane_power};
 use crate::span::span_around;
-use filters::four::put_four;
+use filters::four::{Four, put_four};
 
 // A row, and where the window behind its own begins among the joined ones.
 #[derive(Clone, Copy)]
@@ -20,7 +20,7 @@ pub struct Placed {
 // Four rows, and where the window behind the last one's begins.
 #[derive(Clone, Copy)]
 pub struct PlacedLanes {
-    pub lanes: Lanes,
+    pub lanes: Four<Lane>,
     pub next: usize,
 }
 
@@ -74,7 +74,7 @@ fn place_four(
     let q = place(samples, centre, lengths, coefficients, end, k + 1, p.next);
     let r = place(samples, centre, lengths, coefficients, end, k + 2, q.next);
     let s = place(samples, centre, lengths, coefficients, end, k + 3, r.next);
-    let lanes = Lanes {
+    let lanes = Four {
         a: p.lane,
         b: q.lane,
         c: r.lane,

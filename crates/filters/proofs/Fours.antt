@@ -10,14 +10,13 @@ use Rattle.filters.specs.Four.{rest_of_four, stepped_four, four_resonated}
 use Rattle.filters.specs.inside.Alone.{four_alone}
 use Rattle.filters.specs.declared.resonator.Delay.{Delay}
 use Rattle.filters.specs.declared.four.Four.{Four}
-use Rattle.filters.specs.declared.four.Delays.{Delays}
 
 pub resonated-more : (coefficient : Float) (values : ℕ → Float) (n : ℕ) → stepped_of coefficient (values n) (resonated coefficient values n) ≡ resonated coefficient values (n + 1)
 unfolding resonated
 resonated-more coefficient values n = sym (turns-last (λ (i : ℕ) (d : Delay). stepped_of coefficient (values i) d) n at_rest)
 
-module _ (coefficients : Four) (values : ℕ → Four) where
-  each : {a a' b b' c c' d d' : Delay} → a ≡ a' → b ≡ b' → c ≡ c' → d ≡ d' → ◌≡◌ {A = Delays} (record { a = a; b = b; c = c; d = d }) (record { a = a'; b = b'; c = c'; d = d' })
+module _ (coefficients : Four Float) (values : ℕ → Four Float) where
+  each : {a a' b b' c c' d d' : Delay} → a ≡ a' → b ≡ b' → c ≡ c' → d ≡ d' → ◌≡◌ {A = Four Delay} (record { a = a; b = b; c = c; d = d }) (record { a = a'; b = b'; c = c'; d = d' })
   each p q r s = rw (p, q, r, s)
 
   pub four-more : (n : ℕ) → stepped_four coefficients (values n) (four_alone coefficients values n) ≡ four_alone coefficients values (n + 1)
@@ -30,10 +29,10 @@ module _ (coefficients : Four) (values : ℕ → Four) where
   unfolding four_alone resonated turns
   rest-alone = refl
 
-  one_more : (i : ℕ) (delays : Delays) → delays ≡ four_alone coefficients values i → stepped_four coefficients (values i) delays ≡ four_alone coefficients values (suc i)
+  one_more : (i : ℕ) (delays : Four Delay) → delays ≡ four_alone coefficients values i → stepped_four coefficients (values i) delays ≡ four_alone coefficients values (suc i)
   one_more i delays e = ap (stepped_four coefficients (values i)) e ∙ four-more i ∙ ap (four_alone coefficients values) (add-one i)
 
   -- side by side, each ends as it would alone
   pub four-alone : (n : ℕ) → four_resonated coefficients values n ≡ four_alone coefficients values n
   unfolding four_resonated
-  four-alone n = turns-keep (λ (i : ℕ) (delays : Delays). delays ≡ four_alone coefficients values i) (λ (i : ℕ) (delays : Delays). stepped_four coefficients (values i) delays) rest_of_four rest-alone one_more n
+  four-alone n = turns-keep (λ (i : ℕ) (delays : Four Delay). delays ≡ four_alone coefficients values i) (λ (i : ℕ) (delays : Four Delay). stepped_four coefficients (values i) delays) rest_of_four rest-alone one_more n

@@ -14,7 +14,7 @@ use Rattle.filters.specs.inside.Alone.{four_alone}
 use Rattle.filters.proofs.Fours.{four-alone}
 use Rattle.filters.proofs.Rooms.{filled-four}
 use Rattle.filters.specs.declared.four.Four.{Four}
-use Rattle.filters.specs.declared.four.Delays.{Delays}
+use Rattle.filters.specs.declared.resonator.Delay.{Delay}
 use Rattle.magnitudes.specs.Magnitudes.{frame_value, row_magnitude, magnitudes_of}
 use Rattle.magnitudes.specs.InFours.{coefficients_from, last_powers, batch_powers, roots_of, put_batches, put_singly, in_fours}
 
@@ -25,7 +25,7 @@ module _ (window coefficients samples : List Float) (start : ℕ) where
   -- the roots of a batch are its four rows' own magnitudes
   batch-told : (k : ℕ) → roots_of (batch_powers window samples start (coefficients_from coefficients k)) ≡ record { a = magnitude k; b = magnitude (k + 1); c = magnitude (k + 2); d = magnitude (k + 3) }
   unfolding batch_powers row_magnitude four_alone
-  batch-told k = let four = coefficients_from coefficients k in ap (λ (d : Delays). roots_of (last_powers four d)) (four-alone four (λ (i : ℕ). same_for_four (frame_value window samples start i)) (length window))
+  batch-told k = let four = coefficients_from coefficients k in ap (λ (d : Four Delay). roots_of (last_powers four d)) (four-alone four (λ (i : ℕ). same_for_four (frame_value window samples start i)) (length window))
 
   abbrev batch : ℕ → List Float → List Float
   batch j r = put_four (roots_of (batch_powers window samples start (coefficients_from coefficients (4 * j)))) (4 * j) r
@@ -37,7 +37,7 @@ module _ (window coefficients samples : List Float) (start : ℕ) where
     one_batch : (j : ℕ) (r : List Float) → (4 * j ≤ length room → Filled magnitude room r (4 * j)) → 4 * suc j ≤ length room → Filled magnitude room (batch j r) (4 * suc j)
     one_batch j r so_far h =
         let behind : 4 * j + 4 ≡ 4 * suc j = omega arith in
-        subst (Filled magnitude room (batch j r)) behind (subst (λ (four : Four). Filled magnitude room (put_four four (4 * j) r) (4 * j + 4)) (sym (batch-told (4 * j))) (filled-four magnitude room r (4 * j) (so_far (omega arith)) (omega arith)))
+        subst (Filled magnitude room (batch j r)) behind (subst (λ (four : Four Float). Filled magnitude room (put_four four (4 * j) r) (4 * j + 4)) (sym (batch-told (4 * j))) (filled-four magnitude room r (4 * j) (so_far (omega arith)) (omega arith)))
 
     batches-filled : (batches : ℕ) → 4 * batches ≤ length room → Filled magnitude room (put_batches window coefficients samples start batches room) (4 * batches)
     unfolding put_batches

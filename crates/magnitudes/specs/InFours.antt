@@ -5,23 +5,23 @@ use Rattle.laws.specs.Turns.{turns}
 use Rattle.roots.specs.Root.{root_of}
 use Rattle.filters.specs.Four.{same_for_four, four_resonated, put_four}
 use Rattle.filters.specs.declared.four.Four.{Four}
-use Rattle.filters.specs.declared.four.Delays.{Delays}
+use Rattle.filters.specs.declared.resonator.Delay.{Delay}
 use Rattle.magnitudes.specs.Magnitudes.{frame_value, last_power, row_magnitude}
 
 -- the coefficients of rows k to k + 3
-abbrev pub coefficients_from : List Float → ℕ → Four
+abbrev pub coefficients_from : List Float → ℕ → Four Float
 coefficients_from coefficients k = record { a = get_or coefficients k nan; b = get_or coefficients (k + 1) nan; c = get_or coefficients (k + 2) nan; d = get_or coefficients (k + 3) nan }
 
 -- the powers that four resonators end with
-abbrev pub last_powers : Four → Delays → Four
+abbrev pub last_powers : Four Float → Four Delay → Four Float
 last_powers coefficients d = record { a = last_power coefficients.a d.a; b = last_power coefficients.b d.b; c = last_power coefficients.c d.c; d = last_power coefficients.d d.d }
 
 -- the powers of four rows, whose resonators take each value of the frame together
-unfoldable pub batch_powers : List Float → List Float → ℕ → Four → Four
+unfoldable pub batch_powers : List Float → List Float → ℕ → Four Float → Four Float
 batch_powers window samples start coefficients = last_powers coefficients (four_resonated coefficients (λ (i : ℕ). same_for_four (frame_value window samples start i)) (length window))
 
 -- their square roots
-abbrev pub roots_of : Four → Four
+abbrev pub roots_of : Four Float → Four Float
 roots_of powers = record { a = root_of powers.a; b = root_of powers.b; c = root_of powers.c; d = root_of powers.d }
 
 -- so many batches, each in its places

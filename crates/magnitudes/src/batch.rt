@@ -6,65 +6,55 @@ ghost use Rattle.magnitudes.specs.Magnitudes.{frame_value};
 ghost use Rattle.magnitudes.specs.InFours.{coefficients_from, batch_powers, roots_of, put_batches, put_singly, in_fours};
 
 use crate::row::{last_magnitude, last_power};
-use filters::four::{Delays, Four, four_at_rest, put_four, step_four};
+use filters::four::{Four, four_at_rest, put_four, same_for_four, step_four};
 use filters::resonator::{Delay, at_rest, step, windowed};
 use roots::square_root;
 
 // The coefficients of four rows from k on.
-fn coefficients_from(coefficients: &[f32], k: usize) -> Four
+fn coefficients_from(coefficients: &[f32], k: usize) -> Four<f32>
     requires { k + 4 ≤ length coefficients.now }
     ensures { result ≡ coefficients_from coefficients.now k }
 {
-    let a = coefficients[k];
-    let b = coefficients[k + 1];
-    let c = coefficients[k + 2];
-    let d = coefficients[k + 3];
-    Four { a, b, c, d }
+    Four {
+        a: coefficients[k],
+        b: coefficients[k + 1],
+        c: coefficients[k + 2],
+        d: coefficients[k + 3],
+    }
 }
 
 // The frame that starts at `start`, through four rows' resonators.
-fn run_batch(samples: &[f32], start: usize, window: &[f32], coefficients: Four) -> Delays
+fn run_batch(samples: &[f32], start: usize, window: &[f32], coefficients: Four<f32>) -> Four<Delay>
     requires { start + length window.now ≤ length samples.now }
     ensures { result ≡ four_resonated coefficients (λ i. same_for_four (frame_value window.now samples.now start i)) (length window.now) }
 {
     let mut delays = four_at_rest();
-    let mut i = 0;
-    while i < window.len() {
+    for i in 0..window.len() {
         let x = windowed(samples[start + i], window[i]);
-        let values = Four {
-            a: x,
-            b: x,
-            c: x,
-            d: x,
-        };
-        delays = step_four(delays, coefficients, values);
-        i += 1;
+        delays = step_four(delays, coefficients, same_for_four(x));
     }
     delays
 }
 
 // The powers of four rows.
-fn goertzel_power_batch_4(samples: &[f32], start: usize, window: &[f32], coefficients: Four) -> Four
+fn goertzel_power_batch_4(
+    samples: &[f32],
+    start: usize,
+    window: &[f32],
+    coefficients: Four<f32>,
+) -> Four<f32>
     requires { start + length window.now ≤ length samples.now }
     ensures { result ≡ batch_powers window.now samples.now start coefficients }
 {
     let delays = run_batch(samples, start, window, coefficients);
-    let a = last_power(coefficients.a, delays.a);
-    let b = last_power(coefficients.b, delays.b);
-    let c = last_power(coefficients.c, delays.c);
-    let d = last_power(coefficients.d, delays.d);
-    Four { a, b, c, d }
+    coefficients.with(delays, last_power)
 }
 
 // The square roots of four powers.
-fn roots_of_four(powers: Four) -> Four
+fn roots_of_four(powers: Four<f32>) -> Four<f32>
     ensures { result ≡ roots_of powers }
 {
-    let a = square_root(powers.a);
-    let b = square_root(powers.b);
-    let c = square_root(powers.c);
-    let d = square_root(powers.d);
-    Four { a, b, c, d }
+    powers.map(square_root)
 }
 
 // The frame that starts at `start`, through one row's resonator.
@@ -73,11 +63,9 @@ fn run_row(samples: &[f32], start: usize, window: &[f32], coefficient: f32) -> D
     ensures { result ≡ resonated coefficient (frame_value window.now samples.now start) (length window.now) }
 {
     let mut delay = at_rest();
-    let mut i = 0;
-    while i < window.len() {
+    for i in 0..window.len() {
         let x = windowed(samples[start + i], window[i]);
         delay = step(delay, coefficient, x);
-        i += 1;
     }
     delay
 }
@@ -94,13 +82,11 @@ fn write_batches(
     requires { (start + length window.now ≤ length samples.now) × (4 * batches ≤ length coefficients.now) × (length coefficients.now ≤ length room.old) }
     ensures { room.new ≡ put_batches window.now coefficients.now samples.now start batches room.old }
 {
-    let mut j = 0;
-    while j < batches {
+    for j in 0..batches {
         let k = 4 * j;
         let four = coefficients_from(coefficients, k);
         let powers = goertzel_power_batch_4(samples, start, window, four);
         put_four(roots_of_four(powers), k, room);
-        j += 1;
     }
 }
 
@@ -116,12 +102,9 @@ fn write_singly(
     requires { (start + length window.now ≤ length samples.now) × (from ≤ length coefficients.now) × (length coefficients.now ≤ length room.old) }
     ensures { room.new ≡ put_singly window.now coefficients.now samples.now start from room.old }
 {
-    let mut k = from;
-    while k < coefficients.len() {
-        let coefficient = coefficients[k];
-        let delay = run_row(samples, start, window, coefficient);
-        room[k] = last_magnitude(coefficient, delay);
-        k += 1;
+    for k in from..coefficients.len() {
+        let delay = run_row(samples, start, window, coefficients[k]);
+        room[k] = last_magnitude(coefficients[k], delay);
     }
 }
 

@@ -12,8 +12,7 @@ fn step_rows(coefficients: &[f32], x: f32, last: &mut [f32], before: &mut [f32])
     requires { (length coefficients.now ≤ length last.old) × (length coefficients.now ≤ length before.old) }
     ensures { delay_lists last.new before.new ≡ stepped_rows coefficients.now x (delay_lists last.old before.old) }
 {
-    let mut k = 0;
-    while k < coefficients.len() {
+    for k in 0..coefficients.len() {
         let delay = Delay {
             last: last[k],
             before: before[k],
@@ -21,7 +20,6 @@ fn step_rows(coefficients: &[f32], x: f32, last: &mut [f32], before: &mut [f32])
         let next = step(delay, coefficients[k], x);
         last[k] = next.last;
         before[k] = next.before;
-        k += 1;
     }
 }
 
@@ -37,11 +35,9 @@ fn run_rows(
     requires { (start + length window.now ≤ length samples.now) × (length coefficients.now ≤ length last.old) × (length coefficients.now ≤ length before.old) }
     ensures { delay_lists last.new before.new ≡ run_rows coefficients.now (frame_value window.now samples.now start) (length window.now) (delay_lists last.old before.old) }
 {
-    let mut i = 0;
-    while i < window.len() {
+    for i in 0..window.len() {
         let x = windowed(samples[start + i], window[i]);
         step_rows(coefficients, x, last, before);
-        i += 1;
     }
 }
 
@@ -50,14 +46,12 @@ fn last_magnitudes(coefficients: &[f32], last: &[f32], before: &[f32], room: &mu
     requires { (length coefficients.now ≤ length last.now) × (length coefficients.now ≤ length before.now) × (length coefficients.now ≤ length room.old) }
     ensures { room.new ≡ front (last_magnitudes coefficients.now (delay_lists last.now before.now)) room.old }
 {
-    let mut k = 0;
-    while k < coefficients.len() {
+    for k in 0..coefficients.len() {
         let delay = Delay {
             last: last[k],
             before: before[k],
         };
         room[k] = last_magnitude(coefficients[k], delay);
-        k += 1;
     }
 }
 

@@ -3,11 +3,10 @@ use Rattle.std.specs.Prelude.{ℕ, ◌+◌, ◌*◌, ◌<◌, ◌≤◌, List, F
 use Rattle.laws.specs.Front.{list}
 use Rattle.filters.specs.Resonator.{power_of}
 use Rattle.filters.specs.declared.four.Four.{Four}
-use Rattle.filters.specs.declared.four.Delays.{Delays}
+use Rattle.filters.specs.declared.resonator.Delay.{Delay}
 use Rattle.constant_q.specs.ConstantQ.{per_count}
 use Rattle.constant_q.specs.inside.Lanes.{lane_power, four_delays}
 use Rattle.constant_q.specs.declared.lanes.Lane.{Lane}
-use Rattle.constant_q.specs.declared.lanes.Lanes.{Lanes}
 use Rattle.blocks.specs.declared.eight.Eight.{Eight}
 
 -- the same row some samples later
@@ -15,7 +14,7 @@ abbrev pub later_by : ℕ → Lane → Lane
 later_by by lane = record { start = lane.start + by; first = lane.first; count = lane.count; coefficient = lane.coefficient }
 
 -- a row at four positions, a hop apart
-abbrev pub four_apart : ℕ → Lane → Lanes
+abbrev pub four_apart : ℕ → Lane → Four Lane
 four_apart hop lane = record { a = lane; b = later_by hop lane; c = later_by (2 * hop) lane; d = later_by (3 * hop) lane }
 
 -- the row lies on a track of so many samples and within so many window values, at the first of eight positions and at the last
@@ -25,11 +24,11 @@ pub record EightLie (samples windows hop : ℕ) (lane : Lane) : Type 0 where
   pub short : lane.count < 0x1_0000_0000
 
 -- each of twice four resonators alone, after n values
-unfoldable pub eight_delays : List Float → List Float → Lanes → Lanes → ℕ → Eight
+unfoldable pub eight_delays : List Float → List Float → Four Lane → Four Lane → ℕ → Eight
 eight_delays samples windows early late n = record { early = four_delays samples windows early n; late = four_delays samples windows late n }
 
 -- the powers that four resonators end with
-unfoldable pub powers_left : Lanes → Delays → Four
+unfoldable pub powers_left : Four Lane → Four Delay → Four Float
 powers_left lanes d =
     record {
       a = per_count lanes.a.count (power_of lanes.a.coefficient d.a);

@@ -7,11 +7,11 @@ use Rattle.sheets.specs.Sheet.{joined_length}
 use Rattle.calls.specs.Call.{Sheet}
 use Rattle.calls.specs.inside.Parts.{sheet_of}
 use Rattle.filters.specs.Classes.{no_sums, class_added}
+use Rattle.filters.specs.declared.four.Four.{Four}
 use Rattle.constant_q.specs.ConstantQ.{covered_from, covered_count, half_left}
 use Rattle.constant_q.specs.inside.Lanes.{lane_power}
 use Rattle.constant_q.specs.declared.span.Span.{Span}
 use Rattle.constant_q.specs.declared.lanes.Lane.{Lane}
-use Rattle.constant_q.specs.declared.lanes.Lanes.{Lanes}
 use Rattle.constant_q.specs.declared.powers.Placed.{Placed}
 use Rattle.constant_q.specs.declared.powers.PlacedLanes.{PlacedLanes}
 
@@ -60,7 +60,7 @@ abbrev pub placed_at : ℕ → ℕ → List ℕ → List Float → ℕ → Place
 placed_at samples centre lengths coefficients k = record { lane = lane_at samples centre lengths coefficients k; next = joined_length lengths (k + 1) }
 
 -- rows k to k + 3
-abbrev pub lanes_from : ℕ → ℕ → List ℕ → List Float → ℕ → Lanes
+abbrev pub lanes_from : ℕ → ℕ → List ℕ → List Float → ℕ → Four Lane
 lanes_from samples centre lengths coefficients k =
     record {
       a = lane_at samples centre lengths coefficients k;

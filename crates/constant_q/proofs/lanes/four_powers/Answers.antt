@@ -1,26 +1,24 @@
 -- As far as all lanes reach each has the state of its own resonator, which then ends alone.
-use Rattle.std.proofs.Common.{refl, ap, arith}
+use Rattle.std.proofs.Common.{◌≡◌, ap, rules}
 use Rattle.filters.specs.inside.Alone.{four_alone}
-use Rattle.filters.specs.declared.four.Delays.{Delays}
-use Rattle.constant_q.specs.inside.Lanes.{four_powers}
+use Rattle.filters.specs.declared.four.Four.{Four}
+use Rattle.filters.specs.declared.resonator.Delay.{Delay}
+use Rattle.constant_q.specs.inside.Lanes.{lane_delay, four_powers}
 use Rattle.constant_q.proofs.lanes.four_powers.Goals as goal
 
-pub finish_lane-a-requires : goal.finish_lane-a-requires
+pub with-requires : goal.with-requires
 unfolding four_alone
-finish_lane-a-requires c = let all = c.fewest-n.ensures in (c.requires.a, omega arith, ap (λ (x : Delays). x.a) c.run_four-delays.ensures)
-
-pub finish_lane-b-requires : goal.finish_lane-b-requires
-unfolding four_alone
-finish_lane-b-requires c = let all = c.fewest-n.ensures in (c.requires.b, omega arith, ap (λ (x : Delays). x.b) c.run_four-delays.ensures)
-
-pub finish_lane-c-requires : goal.finish_lane-c-requires
-unfolding four_alone
-finish_lane-c-requires c = let all = c.fewest-n.ensures in (c.requires.c, omega arith, ap (λ (x : Delays). x.c) c.run_four-delays.ensures)
-
-pub finish_lane-d-requires : goal.finish_lane-d-requires
-unfolding four_alone
-finish_lane-d-requires c = let all = c.fewest-n.ensures in (c.requires.d, omega arith, ap (λ (x : Delays). x.d) c.run_four-delays.ensures)
+with-requires c =
+    let lanes = c.args.lanes in
+    let n = c.fewest-n.result in
+    let d = c.run_four-delays.result in
+    let reached = c.fewest-n.ensures in
+    let a : d.a ≡ lane_delay c.args.samples.now c.args.windows.now lanes.a n = ap (λ (x : Four Delay). x.a) c.run_four-delays.ensures in
+    let b : d.b ≡ lane_delay c.args.samples.now c.args.windows.now lanes.b n = ap (λ (x : Four Delay). x.b) c.run_four-delays.ensures in
+    let e : d.c ≡ lane_delay c.args.samples.now c.args.windows.now lanes.c n = ap (λ (x : Four Delay). x.c) c.run_four-delays.ensures in
+    let f : d.d ≡ lane_delay c.args.samples.now c.args.windows.now lanes.d n = ap (λ (x : Four Delay). x.d) c.run_four-delays.ensures in
+    search rules
 
 pub returns : goal.returns
 unfolding four_powers
-returns c = rw (c.finish_lane-d.ensures, c.finish_lane-c.ensures, c.finish_lane-b.ensures, c.finish_lane-a.ensures) refl
+returns c = search rules

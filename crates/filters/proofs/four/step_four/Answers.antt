@@ -5,4 +5,4 @@ use Rattle.filters.proofs.four.step_four.Goals as goal
 
 pub returns : goal.returns
 unfolding stepped_four
-returns c = rw (c.step-d.ensures, c.step-c.ensures, c.step-b.ensures, c.step-a.ensures) refl
+returns c = rw (c.step-4.ensures, c.step-3.ensures, c.step-2.ensures, c.step.ensures) refl

@@ -7,12 +7,12 @@ use Rattle.magnitudes.proofs.batch.run_batch.Goals as goal
 
 pub loop-i-init : goal.loop-i-init
 unfolding four_resonated
-loop-i-init c = (omega arith, rw c.four_at_rest-delays.ensures (turns-start _ _ _))
+loop-i-init c = rw c.four_at_rest-delays.ensures (turns-start _ _ _)
 
 pub loop-i-preserved : goal.loop-i-preserved
 loop-i-preserved c =
     let turn = c.loop-i in
-    (omega arith, turns-again _ _ turn.i turn.invariant.1 (omega arith) (c.step_four-delays.ensures ∙ rw c.windowed-x.ensures refl))
+    turns-again _ _ turn.i turn.invariant (omega arith) (c.step_four-delays.ensures ∙ rw (c.same_for_four.ensures, c.windowed-x.ensures) refl)
 
 pub returns : goal.returns
-returns c = let end = c.loop-i in turns-end _ _ end.i end.invariant.1 (omega arith)
+returns c = let end = c.loop-i in turns-end _ _ end.i end.invariant (omega arith)

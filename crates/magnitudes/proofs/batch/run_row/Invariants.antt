@@ -1,5 +1,5 @@
 -- A value of the frame a turn.
-use Prim.Native.Nat.{ℕ, ◌≤◌, ◌-◌}
+use Prim.Native.Nat.{ℕ, ◌-◌}
 use mathlib.Core.Path.{◌≡◌}
 use lib.ListN.{length}
 use Rattle.laws.specs.Turns.{turns}
@@ -9,7 +9,4 @@ use Rattle.magnitudes.specs.Magnitudes.{frame_value}
 use Rattle.magnitudes.proofs.batch.run_row.Given as goal
 
 abbrev pub invariant-loop-i : goal.invariant-loop-i
-invariant-loop-i l = (l.i ≤ length l.window) × (turns (λ (j : ℕ) (d : Delay). stepped_of l.coefficient (frame_value l.window l.samples l.start j) d) (length l.window - l.i) l.i l.delay ≡ resonated l.coefficient (frame_value l.window l.samples l.start) (length l.window))
-
-abbrev pub decreases-loop-i : goal.decreases-loop-i
-decreases-loop-i l = length l.window - l.i
+invariant-loop-i l = turns (λ (j : ℕ) (d : Delay). stepped_of l.coefficient (frame_value l.window l.samples l.start j) d) (length l.window - l.i) l.i l.delay ≡ resonated l.coefficient (frame_value l.window l.samples l.start) (length l.window)

@@ -1,5 +1,5 @@
 -- A batch a turn.
-use Prim.Native.Nat.{ℕ, ◌*◌, ◌≤◌, ◌-◌}
+use Prim.Native.Nat.{ℕ, ◌*◌, ◌-◌}
 use mathlib.Core.Path.{◌≡◌}
 use mathlib.Core.List.{List}
 use lib.ListN.{length}
@@ -10,7 +10,4 @@ use Rattle.magnitudes.specs.InFours.{coefficients_from, batch_powers, roots_of, 
 use Rattle.magnitudes.proofs.batch.write_batches.Given as goal
 
 abbrev pub invariant-loop-j : goal.invariant-loop-j
-invariant-loop-j l = (l.j ≤ l.batches) × (turns (λ (i : ℕ) (r : List Float). put_four (roots_of (batch_powers l.window l.samples l.start (coefficients_from l.coefficients (4 * i)))) (4 * i) r) (l.batches - l.j) l.j l.room ≡ put_batches l.window l.coefficients l.samples l.start l.batches l.initial.room) × (length l.room ≡ length l.initial.room)
-
-abbrev pub decreases-loop-j : goal.decreases-loop-j
-decreases-loop-j l = l.batches - l.j
+invariant-loop-j l = (turns (λ (i : ℕ) (r : List Float). put_four (roots_of (batch_powers l.window l.samples l.start (coefficients_from l.coefficients (4 * i)))) (4 * i) r) (l.batches - l.j) l.j l.room ≡ put_batches l.window l.coefficients l.samples l.start l.batches l.initial.room) × (length l.room ≡ length l.initial.room)

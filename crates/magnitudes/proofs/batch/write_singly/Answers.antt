@@ -9,13 +9,13 @@ use Rattle.magnitudes.proofs.batch.write_singly.Goals as goal
 
 pub loop-k-init : goal.loop-k-init
 unfolding put_singly
-loop-k-init c = (omega arith, refl, refl)
+loop-k-init c = (refl, refl)
 
 pub loop-k-preserved : goal.loop-k-preserved
 unfolding row_magnitude
 loop-k-preserved c =
     let turn = c.loop-k in
-    (omega arith, turns-again _ _ turn.k turn.invariant.1 (omega arith) (rw (c.last_magnitude.ensures, c.run_row-delay.ensures) refl), search rules)
+    (turns-again _ _ turn.k turn.invariant.0 (omega arith) (rw (c.last_magnitude.ensures, c.run_row-delay.ensures) refl), search rules)
 
 pub returns : goal.returns
-returns c = let end = c.loop-k in turns-end _ _ end.k end.invariant.1 (omega arith)
+returns c = let end = c.loop-k in turns-end _ _ end.k end.invariant.0 (omega arith)

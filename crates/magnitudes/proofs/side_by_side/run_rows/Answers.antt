@@ -7,12 +7,12 @@ use Rattle.magnitudes.proofs.side_by_side.run_rows.Goals as goal
 
 pub loop-i-init : goal.loop-i-init
 unfolding run_rows
-loop-i-init c = (omega arith, turns-start _ _ _, refl, refl)
+loop-i-init c = (turns-start _ _ _, refl, refl)
 
 pub loop-i-preserved : goal.loop-i-preserved
 loop-i-preserved c =
     let turn = c.loop-i in
-    (omega arith, turns-again _ _ turn.i turn.invariant.1 (omega arith) (c.step_rows.ensures ∙ rw c.windowed-x.ensures refl), c.step_rows.auto.last ∙ turn.invariant.2, c.step_rows.auto.before ∙ turn.invariant.3)
+    (turns-again _ _ turn.i turn.invariant.0 (omega arith) (c.step_rows.ensures ∙ rw c.windowed-x.ensures refl), c.step_rows.auto.last ∙ turn.invariant.1, c.step_rows.auto.before ∙ turn.invariant.2)
 
 pub returns : goal.returns
-returns c = let end = c.loop-i in turns-end _ _ end.i end.invariant.1 (omega arith)
+returns c = let end = c.loop-i in turns-end _ _ end.i end.invariant.0 (omega arith)
