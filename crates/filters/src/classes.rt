@@ -2,6 +2,8 @@
 ghost use Rattle.std.specs.Prelude.{◌≡◌, ◌<◌, ◌≤◌, length};
 ghost use Rattle.filters.specs.Classes.{class_at, weights_by_class, divided_value, divided_by_class};
 
+use std::array;
+
 // The pitch class of a row.
 pub fn class_at(lowest: u8, k: usize) -> usize
     requires { k < 256 }
@@ -16,11 +18,8 @@ pub fn sum_weights(lowest: u8, weights: &[f32]) -> [f32; 12]
     ensures { result ≡ weights_by_class lowest weights.now }
 {
     let mut sums = [0.0; 12];
-    let mut k = 0;
-    while k < weights.len() {
-        let class = class_at(lowest, k);
-        sums[class] += weights[k];
-        k += 1;
+    for k in 0..weights.len() {
+        sums[class_at(lowest, k)] += weights[k];
     }
     sums
 }
@@ -40,11 +39,5 @@ fn divide_value(value: f32, weight: f32) -> f32
 pub fn divide_by_weights(values: &[f32; 12], weights: &[f32; 12]) -> [f32; 12]
     ensures { result ≡ divided_by_class values.now weights.now }
 {
-    let mut means = [0.0; 12];
-    let mut i = 0;
-    while i < 12 {
-        means[i] = divide_value(values[i], weights[i]);
-        i += 1;
-    }
-    means
+    array::from_fn(|i| divide_value(values[i], weights[i]))
 }

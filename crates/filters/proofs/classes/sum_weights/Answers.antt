@@ -8,11 +8,11 @@ use Rattle.filters.proofs.classes.sum_weights.Goals as goal
 
 pub loop-k-init : goal.loop-k-init
 unfolding weights_by_class added_by_class of_bits
-loop-k-init c = (omega arith, turns-start _ _ _)
+loop-k-init c = turns-start _ _ _
 
 pub loop-k-preserved : goal.loop-k-preserved
 unfolding class_added
-loop-k-preserved c = let turn = c.loop-k in (omega arith, turns-again _ _ turn.k turn.invariant.1 c.loop-k-test.true (rw c.class_at-class.ensures.0 refl))
+loop-k-preserved c = turns-again _ _ c.loop-k.k c.loop-k.invariant c.loop-k-test.true (rw c.class_at.ensures.0 refl)
 
 pub returns : goal.returns
-returns c = let last = c.loop-k in turns-end _ _ last.k last.invariant.1 (omega arith)
+returns c = turns-end _ _ c.loop-k.k c.loop-k.invariant (omega arith)

@@ -1,5 +1,5 @@
 -- A row a turn.
-use Prim.Native.Nat.{ℕ, ◌≤◌, ◌-◌}
+use Prim.Native.Nat.{ℕ, ◌-◌}
 use mathlib.Core.Path.{◌≡◌}
 use lib.ListN.{length, get_or}
 use lib.Ieee.{Float, nan}
@@ -9,7 +9,4 @@ use Rattle.filters.specs.Classes.{class_added, weights_by_class}
 use Rattle.filters.proofs.classes.sum_weights.Given as goal
 
 abbrev pub invariant-loop-k : goal.invariant-loop-k
-invariant-loop-k l = (l.k ≤ length l.weights) × (turns (λ (j : ℕ) (s : List Float). class_added l.lowest j (get_or l.weights j nan) s) (length l.weights - l.k) l.k l.sums ≡ weights_by_class l.lowest l.weights)
-
-abbrev pub decreases-loop-k : goal.decreases-loop-k
-decreases-loop-k l = length l.weights - l.k
+invariant-loop-k l = turns (λ (j : ℕ) (s : List Float). class_added l.lowest j (get_or l.weights j nan) s) (length l.weights - l.k) l.k l.sums ≡ weights_by_class l.lowest l.weights
