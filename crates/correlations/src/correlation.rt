@@ -6,6 +6,7 @@ ghost use Rattle.correlations.specs.inside.Lanes.{products_of, turned_of};
 use crate::lanes::sum_lanes;
 use numbers::single::larger;
 use roots::square_root;
+use std::array;
 
 // What a correlation's products are divided by, and whether 2^-23 took the place of a smaller number.
 #[derive(Clone, Copy)]
@@ -53,11 +54,5 @@ pub fn correlations(away: &[f32; 12], wheel: &[f32; 23], divisors: &[f32; 12]) -
     ensures { result ≡ turned_of away.now wheel.now divisors.now }
 {
     let sums = products(away, wheel);
-    let mut quotients = [0.0; 12];
-    let mut root = 0;
-    while root < 12 {
-        quotients[root] = sums[root] / divisors[root];
-        root += 1;
-    }
-    quotients
+    array::from_fn(|root| sums[root] / divisors[root])
 }

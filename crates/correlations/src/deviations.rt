@@ -5,6 +5,7 @@ ghost use Rattle.correlations.specs.Correlation.{mean_of};
 ghost use Rattle.correlations.specs.inside.Deviations.{deviations_of, deviation_energy, wheel_of};
 
 use numbers::twelve::sum_of_twelve;
+use std::array;
 
 // The mean.
 pub fn mean(values: &[f32; 12]) -> f32
@@ -17,13 +18,7 @@ pub fn mean(values: &[f32; 12]) -> f32
 pub fn deviations(values: &[f32; 12], mean: f32) -> [f32; 12]
     ensures { result ≡ deviations_of values.now mean }
 {
-    let mut away = [0.0; 12];
-    let mut i = 0;
-    while i < 12 {
-        away[i] = values[i] - mean;
-        i += 1;
-    }
-    away
+    array::from_fn(|i| values[i] - mean)
 }
 
 // The sum of the deviations' squares.
@@ -31,10 +26,8 @@ pub fn energy(away: &[f32; 12]) -> f32
     ensures { result ≡ deviation_energy away.now }
 {
     let mut sum = 0.0;
-    let mut i = 0;
-    while i < 12 {
-        sum += away[i] * away[i];
-        i += 1;
+    for deviation in away {
+        sum += *deviation * *deviation;
     }
     sum
 }
@@ -44,11 +37,5 @@ pub fn wheel(values: &[f32; 12], mean: f32) -> [f32; 23]
     ensures { result ≡ wheel_of values.now mean }
 {
     let away = deviations(values, mean);
-    let mut wheel = [0.0; 23];
-    let mut j = 0;
-    while j < 23 {
-        wheel[j] = away[(23 - j) % 12];
-        j += 1;
-    }
-    wheel
+    array::from_fn(|j| away[(23 - j) % 12])
 }

@@ -54,10 +54,8 @@ pub fn sum_lanes(away: &[f32; 12], wheel: &[f32; 23], root: usize) -> Four
     ensures { result ≡ lanes_of away.now wheel.now root }
 {
     let mut sums = same_for_all(0.0);
-    let mut i = 0;
-    while i < 12 {
+    for i in 0..12 {
         sums = add_products(sums, same_for_all(away[i]), four_at(wheel, root + 11 - i));
-        i += 1;
     }
     sums
 }
