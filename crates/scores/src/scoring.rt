@@ -7,6 +7,7 @@ use crate::profiles::{ENERGIES, ENERGY_AT, mean_at, profile_at};
 use correlations::correlation::{correlations, divisor_of};
 use correlations::deviations::{deviations, energy, mean, wheel};
 use numbers::twelve::add_twelve;
+use std::array;
 
 // The divisor for each energy of a profile, and whether one of them was held up.
 #[derive(Clone, Copy)]
@@ -38,12 +39,10 @@ fn divisors_for(energy: f32) -> Divisors
     let energies = ENERGIES;
     let mut values = [0.0; 17];
     let mut held_up = false;
-    let mut k = 0;
-    while k < 17 {
+    for k in 0..17 {
         let next = divisor_of(energy, energies[k]);
         values[k] = next.value;
-        held_up = held_up | next.held_up;
-        k += 1;
+        held_up |= next.held_up;
     }
     Divisors { values, held_up }
 }
@@ -55,10 +54,8 @@ fn divisors_at(divisors: &[f32; 17], row: usize) -> [f32; 12]
 {
     let places = ENERGY_AT[row];
     let mut at_roots = [0.0; 12];
-    let mut root = 0;
-    while root < 12 {
+    for root in 0..12 {
         at_roots[root] = divisors[places[root] as usize];
-        root += 1;
     }
     at_roots
 }
@@ -69,14 +66,12 @@ fn sum_mode(away: &[f32; 12], divisors: &[f32; 17], mode: usize) -> [f32; 12]
     ensures { result ≡ mode_sums away.now divisors.now mode }
 {
     let mut sums = [0.0; 12];
-    let mut p = 0;
-    while p < 4 {
+    for p in 0..4 {
         let row = 2 * p + mode;
         let wheel = wheel_at(row);
         let at_roots = divisors_at(divisors, row);
         let more = correlations(away, &wheel, &at_roots);
         sums = add_twelve(&sums, &more);
-        p += 1;
     }
     sums
 }
@@ -89,14 +84,8 @@ pub fn score_keys(chroma: &[f32; 12]) -> Scored
     let divisors = divisors_for(energy(&away));
     let values = divisors.values;
     let sums = [sum_mode(&away, &values, 0), sum_mode(&away, &values, 1)];
-    let mut scores = [0.0; 24];
-    let mut k = 0;
-    while k < 24 {
-        scores[k] = sums[k / 12][k % 12] / 4.0;
-        k += 1;
-    }
     Scored {
-        scores,
+        scores: array::from_fn(|k| sums[k / 12][k % 12] / 4.0),
         shapeless: divisors.held_up,
     }
 }

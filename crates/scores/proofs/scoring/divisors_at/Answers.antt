@@ -1,5 +1,4 @@
 -- The array is written from the front, a divisor a turn; the code's places are the definition's.
-use borrow.Author.Rules.{rules}
 use mathlib.Core.Path.{refl}
 use native.Mathlib.Omega.{arith}
 use Prim.Native.Nat.{◌<◌}
@@ -10,19 +9,7 @@ use Rattle.scores.proofs.Constants.{constants-of-profiles}
 use Rattle.scores.proofs.scoring.divisors_at.Goals as goal
 
 pub loop-root-init : goal.loop-root-init
-loop-root-init c = (omega arith, filled-start _ _)
-
-pub overflow_cast-at_roots : goal.overflow_cast-at_roots
-unfolding energy_places
-overflow_cast-at_roots c =
-    let within : place_at c.args.row c.loop-root.root < 17 = constants-of-profiles.place c.args.row c.loop-root.root c.requires c.loop-root-test.true in
-    search (rules, within)
-
-pub offset_bounds-divisors-places : goal.offset_bounds-divisors-places
-unfolding energy_places
-offset_bounds-divisors-places c =
-    let within : place_at c.args.row c.loop-root.root < 17 = constants-of-profiles.place c.args.row c.loop-root.root c.requires c.loop-root-test.true in
-    search (rules, within)
+loop-root-init c = filled-start _ _
 
 pub bounds-divisors-places : goal.bounds-divisors-places
 unfolding energy_places
@@ -33,8 +20,8 @@ bounds-divisors-places c =
 pub loop-root-preserved : goal.loop-root-preserved
 loop-root-preserved c =
     let turn = c.loop-root in
-    (omega arith, filled_more _ _ _ turn.root turn.invariant.1 (omega arith))
+    filled_more _ _ _ turn.root turn.invariant (omega arith)
 
 pub returns : goal.returns
 unfolding divisors_at energy_places
-returns c = filled-whole _ _ _ c.loop-root.root 12 c.loop-root.invariant.1 (omega arith) refl
+returns c = filled-whole _ _ _ c.loop-root.root 12 c.loop-root.invariant (omega arith) refl

@@ -1,5 +1,4 @@
 -- A profile a turn.
-use native.Mathlib.Omega.{arith}
 use lib.Ieee.{of_bits}
 use Rattle.laws.proofs.Turns.{turns-start, turns-again, turns-end}
 use Rattle.scores.specs.inside.Modes.{mode_turn, mode_sums}
@@ -7,15 +6,13 @@ use Rattle.scores.proofs.scoring.sum_mode.Goals as goal
 
 pub loop-p-init : goal.loop-p-init
 unfolding of_bits mode_sums
-loop-p-init c = (omega arith, turns-start _ _ _)
+loop-p-init c = turns-start _ _ _
 
 pub loop-p-preserved : goal.loop-p-preserved
 unfolding mode_turn
-loop-p-preserved c = (
-  omega arith,
-  turns-again _ 4 c.loop-p.p c.loop-p.invariant.1 c.loop-p-test.true
-      (rw (c.add_twelve-sums.ensures, c.correlations-more.ensures, c.divisors_at-at_roots.ensures, c.wheel_at-wheel.ensures)),
-)
+loop-p-preserved c =
+    turns-again _ 4 c.loop-p.p c.loop-p.invariant c.loop-p-test.true
+    (rw (c.add_twelve-sums.ensures, c.correlations-more.ensures, c.divisors_at-at_roots.ensures, c.wheel_at-wheel.ensures))
 
 pub returns : goal.returns
-returns c = turns-end _ 4 c.loop-p.p c.loop-p.invariant.1 c.loop-p-test.false
+returns c = turns-end _ 4 c.loop-p.p c.loop-p.invariant c.loop-p-test.false

@@ -1,12 +1,9 @@
 -- A profile a turn.
 use mathlib.Core.Path.{◌≡◌}
-use Prim.Native.Nat.{◌≤◌, ◌-◌}
+use Prim.Native.Nat.{◌-◌}
 use Rattle.laws.specs.Turns.{turns}
 use Rattle.scores.specs.inside.Modes.{mode_turn, mode_sums}
 use Rattle.scores.proofs.scoring.sum_mode.Given as goal
 
 abbrev pub invariant-loop-p : goal.invariant-loop-p
-invariant-loop-p l = (l.p ≤ 4) × (turns (mode_turn l.away l.divisors l.mode) (4 - l.p) l.p l.sums ≡ mode_sums l.away l.divisors l.mode)
-
-abbrev pub decreases-loop-p : goal.decreases-loop-p
-decreases-loop-p l = 4 - l.p
+invariant-loop-p l = turns (mode_turn l.away l.divisors l.mode) (4 - l.p) l.p l.sums ≡ mode_sums l.away l.divisors l.mode
