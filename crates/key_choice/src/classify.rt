@@ -59,15 +59,12 @@ pub fn classify_key(chroma: &[f32; 12]) -> Classified
     ensures { result ≡ classified_of chroma.now }
 {
     let scored = score_keys(chroma);
-    let scores = scored.scores;
-    let places = find_places(&scores);
-    let first = places.first;
-    let second = places.second;
+    let places = find_places(&scored.scores);
     Classified {
         key: choose_key(chroma, places),
-        best: first.score,
-        second: second.score,
-        scores,
+        best: places.first.score,
+        second: places.second.score,
+        scores: scored.scores,
         shapeless: scored.shapeless,
     }
 }

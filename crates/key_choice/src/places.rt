@@ -22,17 +22,15 @@ pub struct Places {
 fn enter(places: Places, candidate: Place) -> Places
     ensures { result ≡ placed places candidate }
 {
-    let first = places.first;
-    let second = places.second;
-    if candidate.score > first.score {
+    if candidate.score > places.first.score {
         return Places {
             first: candidate,
-            second: first,
+            second: places.first,
         };
     }
-    if candidate.score > second.score {
+    if candidate.score > places.second.score {
         return Places {
-            first,
+            first: places.first,
             second: candidate,
         };
     }
@@ -66,10 +64,8 @@ pub fn find_places(scores: &[f32; 24]) -> Places
         first: nobody,
         second: nobody,
     };
-    let mut turn = 0;
-    while turn < 24 {
+    for turn in 0..24 {
         places = enter(places, candidate(scores, turn));
-        turn += 1;
     }
     places
 }

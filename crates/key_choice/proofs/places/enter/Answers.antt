@@ -2,11 +2,11 @@
 use Rattle.key_choice.proofs.Branches.{takes_first, takes-second, takes_none}
 use Rattle.key_choice.proofs.places.enter.Goals as goal
 
-pub returns-then-candidate-first : goal.returns-then-candidate-first
-returns-then-candidate-first c = takes_first c.args.places c.args.candidate c.if-candidate-first.true
+pub returns-then-candidate-places : goal.returns-then-candidate-places
+returns-then-candidate-places c = takes_first c.args.places c.args.candidate c.if-candidate-places.true
 
-pub returns-then-candidate-second : goal.returns-then-candidate-second
-returns-then-candidate-second c = takes-second c.args.places c.args.candidate c.if-candidate-first.false c.if-candidate-second.true
+pub returns-then-candidate-places-2 : goal.returns-then-candidate-places-2
+returns-then-candidate-places-2 c = takes-second c.args.places c.args.candidate c.if-candidate-places.false c.if-candidate-places-2.true
 
 pub returns : goal.returns
-returns c = takes_none c.args.places c.args.candidate c.if-candidate-first.false c.if-candidate-second.false
+returns c = takes_none c.args.places c.args.candidate c.if-candidate-places.false c.if-candidate-places-2.false
