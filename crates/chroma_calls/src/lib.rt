@@ -6,7 +6,6 @@ ghost use Rattle.laws.specs.Front.{front};
 ghost use Rattle.chroma_calls.specs.FromChroma.{scores_outcome, scores_call, judged, key_call};
 
 use key_choice::classify::{Classified, classify_key, key_confidence};
-use numbers::flags::one_if;
 use numbers::twelve::twelve_values;
 use scores::scoring::score_keys;
 
@@ -31,32 +30,17 @@ pub struct KeyResult {
     pub shapeless: u32,
 }
 
-// Writes the scores from the front of `out`.
-fn write_scores(scores: &[f32; 24], out: &mut [f32])
-    requires { (length scores.now ≡ 24) × (24 ≤ length out.old) }
-    ensures { out.new ≡ front scores.now out.old }
-{
-    let mut k = 0;
-    while k < 24 {
-        out[k] = scores[k];
-        k += 1;
-    }
-}
-
 // The answer for a classified chroma.
 fn judge(classified: Classified) -> KeyResult
     ensures { result ≡ judged classified }
 {
-    let key = classified.key;
-    let best = classified.best;
-    let second = classified.second;
     KeyResult {
         refusal: 0,
-        key: u8::from(key) as u32,
-        best,
-        second,
-        confidence: key_confidence(best, second),
-        shapeless: one_if(classified.shapeless) as u32,
+        key: u8::from(classified.key) as u32,
+        best: classified.best,
+        second: classified.second,
+        confidence: key_confidence(classified.best, classified.second),
+        shapeless: u32::from(classified.shapeless),
     }
 }
 
@@ -73,11 +57,10 @@ pub fn scores_of_chroma(chroma: &[f32], out: &mut [f32]) -> ScoresResult
     }
     let values = twelve_values(chroma);
     let scored = score_keys(&values);
-    let scores = scored.scores;
-    write_scores(&scores, out);
+    out[..24].copy_from_slice(&scored.scores);
     ScoresResult {
         refusal: 0,
-        shapeless: one_if(scored.shapeless) as u32,
+        shapeless: u32::from(scored.shapeless),
     }
 }
 
@@ -86,16 +69,15 @@ pub fn scores_of_chroma(chroma: &[f32], out: &mut [f32]) -> ScoresResult
 pub fn key_of_chroma(chroma: &[f32]) -> KeyResult
     ensures { result ≡ key_call chroma.now }
 {
-    if chroma.len() != 12 {
-        return KeyResult {
+    match <&[f32; 12]>::try_from(chroma) {
+        Ok(chroma) => judge(classify_key(chroma)),
+        Err(_) => KeyResult {
             refusal: 18,
             key: 24,
             best: 0.0,
             second: 0.0,
             confidence: 0.0,
             shapeless: 0,
-        };
+        },
     }
-    let values = twelve_values(chroma);
-    judge(classify_key(&values))
 }

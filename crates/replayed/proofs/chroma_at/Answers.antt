@@ -1,18 +1,9 @@
--- The array is written from the front, a value a turn.
-use mathlib.Core.Path.{refl}
-use native.Mathlib.Omega.{arith}
-use Rattle.laws.proofs.Front.{filled-start, filled_more, filled-whole}
-use Rattle.replayed.specs.Records.{value_at, chroma_at}
+-- The closure reads a value, and stays as it is.
+use Rattle.std.proofs.Common.{rules}
+use Rattle.laws.proofs.FromFn.{list-from_fn}
+use Rattle.replayed.specs.Records.{chroma_at}
 use Rattle.replayed.proofs.chroma_at.Goals as goal
-
-pub loop-i-init : goal.loop-i-init
-loop-i-init c = (omega arith, filled-start _ _)
-
-pub loop-i-preserved : goal.loop-i-preserved
-loop-i-preserved c =
-    let turn = c.loop-i in
-    (omega arith, rw c.value_at.ensures (filled_more _ _ _ turn.i turn.invariant.1 (omega arith)))
 
 pub returns : goal.returns
 unfolding chroma_at
-returns c = filled-whole _ _ _ c.loop-i.i 12 c.loop-i.invariant.1 (omega arith) refl
+returns c = list-from_fn _ _ _ _ 12 (λ j y q l k. search rules) c.from_fn.ensures.items

@@ -1,13 +1,10 @@
 -- A score a turn.
 use mathlib.Core.Path.{◌≡◌}
-use Prim.Native.Nat.{◌≤◌, ◌-◌}
+use Prim.Native.Nat.{◌-◌}
 use mathlib.Core.Bool.{true}
 use Rattle.laws.specs.Turns.{turns}
 use Rattle.replayed.specs.Records.{score_turn}
 use Rattle.replayed.proofs.scores_agree.Given as goal
 
 abbrev pub invariant-loop-k : goal.invariant-loop-k
-invariant-loop-k l = (l.k ≤ 24) × (turns (score_turn l.bytes l.start l.scores) (24 - l.k) l.k l.same ≡ turns (score_turn l.bytes l.start l.scores) 24 0 true)
-
-abbrev pub decreases-loop-k : goal.decreases-loop-k
-decreases-loop-k l = 24 - l.k
+invariant-loop-k l = turns (score_turn l.bytes l.start l.scores) (24 - l.k) l.k l.same ≡ turns (score_turn l.bytes l.start l.scores) 24 0 true

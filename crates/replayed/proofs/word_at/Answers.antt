@@ -4,4 +4,4 @@ use Rattle.replayed.proofs.word_at.Goals as goal
 
 pub returns : goal.returns
 unfolding word_at
-returns c = c.word_of.ensures
+returns c = c.from_le_bytes.ensures
