@@ -1,8 +1,6 @@
 -- The layouts of a key card, and what a card says in packed numbers. Definitions only.
-use Rattle.std.specs.Prelude.{Bool, true, false, cond, List, [], ◌∷◌, eqb, ℕ, max, ◌^◌, ◌<◌, ◌≤◌}
+use Rattle.std.specs.Prelude.{cond, List, [], ◌∷◌, eqb, ℕ, max, ◌^◌, ◌<◌, ◌≤◌, Option, Some, None, unwrap_or}
 use Rattle.card.specs.declared.layout.Layout.{Layout}
-use Rattle.card.specs.declared.layout.FoundLayout.{FoundLayout}
-use Rattle.card.specs.declared.layout.FoundLayout.TheVariants.{Found, Missing}
 use Rattle.card.specs.declared.layout.Header.{Header}
 use Rattle.card.specs.declared.layout.Segment.{Segment}
 
@@ -37,19 +35,13 @@ abbrev pub last_end : ℕ
 last_end = largest_of (λ (l : Layout). l.last) layouts
 
 -- the first of several layouts with a number
-abbrev pub numbered_in : List Layout → ℕ → FoundLayout
-numbered_in [] number = Missing
-numbered_in (l ∷ ls) number = cond (eqb number l.number) (Found l) (numbered_in ls number)
-
--- a layout was found
-abbrev pub is_found : FoundLayout → Bool
-is_found (Found l) = true
-is_found Missing = false
+abbrev pub numbered_in : List Layout → ℕ → Option Layout
+numbered_in [] number = None
+numbered_in (l ∷ ls) number = cond (eqb number l.number) (Some l) (numbered_in ls number)
 
 -- the layout that was found; where there is none, layout 1 stands in
-abbrev pub layout_or1 : FoundLayout → Layout
-layout_or1 (Found l) = l
-layout_or1 Missing = layout1
+abbrev pub layout_or1 : Option Layout → Layout
+layout_or1 found = unwrap_or found layout1
 
 -- the widths that the functions can put, and limits that fit them
 pub record LayoutFits (l : Layout) : Type 0 where

@@ -1,11 +1,9 @@
 -- 01's card rules, on the packed numbers, each test a way to break one; and the layout that they leave. Definitions only.
-use Rattle.std.specs.Prelude.{ℕ, zero, suc, Bool, not, ◌&&◌, ◌||◌, cond, List, [], ◌∷◌, eqb, leb, ltb, length, get_or}
+use Rattle.std.specs.Prelude.{ℕ, zero, suc, Bool, not, ◌&&◌, ◌||◌, cond, List, [], ◌∷◌, eqb, leb, ltb, length, get_or, Option, Some, None}
 use Rattle.laws.specs.First.{first}
 use Rattle.laws.specs.Table.{any_of}
 use Rattle.card.specs.Layout.{Meaning, layout1, layouts}
 use Rattle.card.specs.declared.layout.Layout.{Layout}
-use Rattle.card.specs.declared.layout.FoundLayout.{FoundLayout}
-use Rattle.card.specs.declared.layout.FoundLayout.TheVariants.{Found, Missing}
 use Rattle.card.specs.declared.layout.Header.{Header}
 use Rattle.card.specs.declared.layout.Segment.{Segment}
 
@@ -80,12 +78,12 @@ card_broken l m = header_broken l m.header (length m.segments) || ltb (first_bro
 
 -- ---- which layout
 -- the first of several layouts whose rules a meaning keeps
-abbrev pub kept_in : List Layout → Meaning → FoundLayout
-kept_in [] m = Missing
-kept_in (l ∷ ls) m = cond (card_broken l m) (kept_in ls m) (Found l)
+abbrev pub kept_in : List Layout → Meaning → Option Layout
+kept_in [] m = None
+kept_in (l ∷ ls) m = cond (card_broken l m) (kept_in ls m) (Some l)
 
 -- the layout that a meaning is written in: layout 1 wherever that holds it
-unfoldable pub layout_for : Meaning → FoundLayout
+unfoldable pub layout_for : Meaning → Option Layout
 layout_for m = kept_in layouts m
 
 -- another layout than 1 for a meaning that layout 1 holds

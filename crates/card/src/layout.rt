@@ -1,6 +1,6 @@
 // A card's layouts, and the packed numbers that it holds.
 ghost use Rattle.std.specs.Prelude.{◌≡◌};
-ghost use Rattle.card.specs.Layout.{layout1, layout2, layouts, numbered_in, is_found, layout_or1};
+ghost use Rattle.card.specs.Layout.{layout1, layout2, layouts, numbered_in};
 
 // A layout's number, the bits of its segment count and of an end, the most segments, and the last end in ms.
 #[derive(Clone, Copy)]
@@ -62,42 +62,15 @@ pub fn layout_2() -> Layout
     }
 }
 
-// A layout that was looked for, or that there is none.
-#[derive(Clone, Copy)]
-pub enum FoundLayout {
-    Found(Layout),
-    Missing,
-}
-
 // The known layout with this number.
-pub fn layout_numbered(number: u64) -> FoundLayout
+pub fn layout_numbered(number: u64) -> Option<Layout>
     ensures { result ≡ numbered_in layouts number }
 {
     if number == 1 {
-        return FoundLayout::Found(layout_1());
+        return Some(layout_1());
     }
     if number == 2 {
-        return FoundLayout::Found(layout_2());
+        return Some(layout_2());
     }
-    FoundLayout::Missing
-}
-
-// Whether a layout was found.
-pub fn is_found(found: FoundLayout) -> bool
-    ensures { result ≡ is_found found }
-{
-    match found {
-        FoundLayout::Found(l) => true,
-        FoundLayout::Missing => false,
-    }
-}
-
-// The layout that was found; where there is none, layout 1.
-pub fn layout_or_1(found: FoundLayout) -> Layout
-    ensures { result ≡ layout_or1 found }
-{
-    match found {
-        FoundLayout::Found(l) => l,
-        FoundLayout::Missing => layout_1(),
-    }
+    None
 }

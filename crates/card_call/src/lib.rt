@@ -6,7 +6,6 @@ ghost use Rattle.card_judge.specs.Analysed.{analysis};
 ghost use Rattle.card_call.specs.Cards.{overall, card_call};
 ghost use Rattle.written.specs.Outcome.{bytes_outcome};
 
-use card::layout::FoundLayout;
 use card_form::card_size;
 use card_judge::analysed::{Overall, layout_of};
 use card_writer::write::write_card;
@@ -37,8 +36,8 @@ pub fn write_analysed_card(
     };
     let found = layout_of(o, starts, ends, keys, confidences);
     match found {
-        FoundLayout::Missing => refused(11),
-        FoundLayout::Found(l) => {
+        None => refused(11),
+        Some(l) => {
             if bytes.len() < card_size(l, ends.len()) {
                 return refused(12);
             }

@@ -1,4 +1,5 @@
 -- A card with an end has a key, so its segments tile the track, and each end is a time up to the duration.
+use Rattle.std.specs.Prelude.{Option, Some, None, unwrap_or}
 use mathlib.Core.Path.{◌≡◌, refl, ap, subst, ◌∙◌}
 use Prim.Native.Nat.{ℕ, ◌+◌, ◌≤◌, ◌<◌}
 use native.Mathlib.Omega.{arith}
@@ -27,9 +28,7 @@ use Rattle.loud_frames.specs.Loud.{AnalyseOutcome}
 use Rattle.analysis.specs.Analyse.{after_checks, table_of, analysed}
 use Rattle.analysis.specs.Demand.{duration_of, segments_left}
 use Rattle.analysis.proofs.Demand.{analysis-keeps}
-use Rattle.packed.specs.Packing.{number_or, milliseconds_of}
-use Rattle.packed.specs.declared.Packed.{Packed}
-use Rattle.packed.specs.declared.Packed.TheVariants.{Number, Refused as Unpacked}
+use Rattle.packed.specs.Packing.{milliseconds_of}
 use Rattle.card.specs.Layout.{last_end}
 use Rattle.card.specs.Rules.{card_segment}
 use Rattle.card.proofs.Unbroken.{has_key}
@@ -57,12 +56,12 @@ lasting c lent = go (table_of c lent) refl
         record { rated = p.worthwhile.rated; slow = p.slow; short = p.short }
 
 -- ---- a number that is not the one above the limit was packed
-packed-number : (x : Float) → packed_end x ≤ last_end → milliseconds_of x last_end ≡ Number (packed_end x)
+packed-number : (x : Float) → packed_end x ≤ last_end → milliseconds_of x last_end ≡ Some (packed_end x)
 packed-number x = go (milliseconds_of x last_end) refl
   where
-    go : (p : Packed) → milliseconds_of x last_end ≡ p → number_or (last_end + 1) p ≤ last_end → p ≡ Number (number_or (last_end + 1) p)
-    go (Number n) e h = refl
-    go Unpacked e h = absurd (omega (arith, h))
+    go : (p : Option ℕ) → milliseconds_of x last_end ≡ p → unwrap_or p (last_end + 1) ≤ last_end → p ≡ Some (unwrap_or p (last_end + 1))
+    go (Some n) e h = refl
+    go None e h = absurd (omega (arith, h))
 
 module _ (c : Call) (lent : Lent) (typed : Typed c.settings) where
   abbrev o : AnalyseOutcome

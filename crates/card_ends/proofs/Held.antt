@@ -12,12 +12,13 @@ use Rattle.laws.specs.Convert.{parts}
 use Rattle.laws.specs.Values.{nonneg}
 use Rattle.laws.proofs.Nonneg.{le→cross}
 use Rattle.laws.proofs.Parts.{parts_held, parts-cross}
-use Rattle.packed.specs.Packing.{number_or, limited, milliseconds_of}
+use Rattle.std.specs.Prelude.{unwrap_or}
+use Rattle.packed.specs.Packing.{limited, milliseconds_of}
 use Rattle.card_ends.specs.Times.{TimesHeld}
 use Rattle.card_ends.proofs.Times.{under-step}
 
 -- a number that the limit admits is packed
-admitted : (limit n : ℕ) → n ≤ limit → number_or (limit + 1) (limited limit n) ≡ n
+admitted : (limit n : ℕ) → n ≤ limit → unwrap_or (limited limit n) (limit + 1) ≡ n
 admitted limit n h = rw (le-leb n limit h)
 
 pub times-held : TimesHeld
@@ -26,7 +27,7 @@ times-held seconds few x time below limit room = go x time.at_least_zero below
     y : Float
     y = parts binary64 0 seconds
 
-    go : (z : Float) → T (nonneg z) → T (le z y) → number_or (limit + 1) (milliseconds_of z limit) ≤ seconds * 1000
+    go : (z : Float) → T (nonneg z) → T (le z y) → unwrap_or (milliseconds_of z limit) (limit + 1) ≤ seconds * 1000
     go nan p h = absurd p
     go (inf s) p h = absurd p
     go (fin true m e) p h = absurd p

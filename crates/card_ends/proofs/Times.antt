@@ -1,4 +1,5 @@
 -- The f64 just above samples / rate in steps of 2 ^ -28 bounds the rounded duration; and a step is less than 1 / (1000 * rate), by which samples / rate misses each millisecond at least.
+use Rattle.std.specs.Prelude.{Some}
 use mathlib.Core.Path.{◌≡◌, ap}
 use Prim.Native.Nat.{ℕ, ◌+◌, ◌*◌, ◌/◌, ◌^◌, ◌≤◌, ◌<◌}
 use native.Mathlib.Nat.{le_refl, le_of_lt, mul-pos, mul-le-mul, mul-le-mul_right, le_of_mul-le-mul_right, le-div_iff_mul-le, div-lt_iff_lt-mul}
@@ -14,7 +15,6 @@ use Rattle.calls.specs.Call.{seconds_at}
 use Rattle.calls.specs.declared.Settings.{Settings}
 use Rattle.windows.proofs.Spans.{seconds-round}
 use Rattle.packed.specs.Packing.{milliseconds_of}
-use Rattle.packed.specs.declared.Packed.TheVariants.{Number}
 use Rattle.packed.proofs.Down.{packed-round-down}
 use Rattle.timeline.specs.Tiling.{Time}
 use Rattle.card_ends.specs.Times.{Inside, Lasting, TimesInside}
@@ -57,7 +57,7 @@ module _ (seconds : ℕ) (moderate : seconds < 2 ^ 25) (s : Settings) (samples :
       let whole : steps * s.rate ≤ samples * 2 ^ 28 = (le-div_iff_mul-le t.rated).0 (le_refl steps) in
       omega (arith, times, whole, t.slow)
 
-  time-inside : (x : Float) → Time x → T (le x (seconds_at s samples)) → (limit n : ℕ) → milliseconds_of x limit ≡ Number n → Inside n s.rate samples
+  time-inside : (x : Float) → Time x → T (le x (seconds_at s samples)) → (limit n : ℕ) → milliseconds_of x limit ≡ Some n → Inside n s.rate samples
   time-inside x held below limit n e =
       let fine : 28 ≤ low binary64 = lit≤ tt in
       let exact = parts_held binary64 28 fine (steps + 1) few in

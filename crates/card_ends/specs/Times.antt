@@ -1,12 +1,11 @@
 -- Milliseconds beside the samples of a track, in whole numbers. Definitions and the statements; proofs/Times.antt and Held.antt prove them.
-use Rattle.std.specs.Prelude.{◌≡◌, ℕ, ◌+◌, ◌*◌, ◌^◌, ◌≤◌, ◌<◌, T, Float}
+use Rattle.std.specs.Prelude.{◌≡◌, ℕ, ◌+◌, ◌*◌, ◌^◌, ◌≤◌, ◌<◌, T, Float, Some, unwrap_or}
 use Rattle.std.specs.Float.{binary64}
 use Rattle.std.specs.Float.Ieee.{le}
 use Rattle.laws.specs.Convert.{parts}
 use Rattle.calls.specs.Call.{seconds_at}
 use Rattle.calls.specs.declared.Settings.{Settings}
-use Rattle.packed.specs.Packing.{number_or, milliseconds_of}
-use Rattle.packed.specs.declared.Packed.TheVariants.{Number}
+use Rattle.packed.specs.Packing.{milliseconds_of}
 use Rattle.timeline.specs.Tiling.{Time}
 
 -- n milliseconds are no longer than so many samples at that rate: n / 1000 ≤ samples / rate
@@ -23,10 +22,10 @@ pub record Lasting (seconds : ℕ) (s : Settings) (samples : ℕ) : Type 0 where
 abbrev pub TimesInside : Type 0
 TimesInside =
     (seconds : ℕ) → seconds < 2 ^ 25 → (s : Settings) (samples : ℕ) → Lasting seconds s samples →
-    (x : Float) → Time x → T (le x (seconds_at s samples)) → (limit n : ℕ) → milliseconds_of x limit ≡ Number n → Inside n s.rate samples
+    (x : Float) → Time x → T (le x (seconds_at s samples)) → (limit n : ℕ) → milliseconds_of x limit ≡ Some n → Inside n s.rate samples
 
 -- a time of so many seconds at most is packed as their milliseconds at most, where the limit is no lower
 abbrev pub TimesHeld : Type 0
 TimesHeld =
     (seconds : ℕ) → seconds < 2 ^ 53 → (x : Float) → Time x → T (le x (parts binary64 0 seconds)) → (limit : ℕ) → seconds * 1000 ≤ limit →
-    number_or (limit + 1) (milliseconds_of x limit) ≤ seconds * 1000
+    unwrap_or (milliseconds_of x limit) (limit + 1) ≤ seconds * 1000

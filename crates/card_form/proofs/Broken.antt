@@ -1,4 +1,5 @@
 -- Whether a card holds a header and n segments, test by test; segment i, `at i`, is read from anywhere.
+use Rattle.std.specs.Prelude.{Option, Some, None}
 use mathlib.Core.Path.{◌≡◌, refl, sym, ap, ◌∙◌}
 use mathlib.Core.Bool.{Bool, true, false, not, ◌||◌, cond}
 use mathlib.Core.List.{[], ◌∷◌}
@@ -15,14 +16,12 @@ use Rattle.card.specs.Rules.{header_broken, first_broken, card_broken, layout_fo
 use Rattle.card_form.specs.Form.{card_bytes, card_for}
 use Rattle.card_form.specs.Rows.{unequal, layout_of_lists}
 use Rattle.card.specs.declared.layout.Layout.{Layout}
-use Rattle.card.specs.declared.layout.FoundLayout.{FoundLayout}
-use Rattle.card.specs.declared.layout.FoundLayout.TheVariants.{Found, Missing}
 use Rattle.card.specs.declared.layout.Header.{Header}
 use Rattle.card.specs.declared.layout.Segment.{Segment}
 
 -- the card of a meaning is in its layout
-pub card-in : (m : Meaning) {l : Layout} → layout_for m ≡ Found l → card_bytes l m ≡ card_for m
-card-in m kept = ap (λ (found : FoundLayout). card_bytes (layout_or1 found) m) (sym kept)
+pub card-in : (m : Meaning) {l : Layout} → layout_for m ≡ Some l → card_bytes l m ≡ card_for m
+card-in m kept = ap (λ (found : Option Layout). card_bytes (layout_or1 found) m) (sym kept)
 
 -- ---- the rules of a layout
 module _ (l : Layout) (h : Header) (at : ℕ → Segment) (count : ℕ) where
@@ -58,7 +57,7 @@ abbrev pub meant : Asked → Meaning
 meant a = record { header = a.header; segments = list a.at a.count }
 
 -- the layout that it is written in
-abbrev pub layout_asked : Asked → FoundLayout
+abbrev pub layout_asked : Asked → Option Layout
 layout_asked a = layout_of_lists a.starts a.count a.keys a.confidences a.gap (meant a)
 
 -- lists of equal length, and a layout whose card it is
@@ -66,19 +65,19 @@ pub record Held (a : Asked) (l : Layout) : Type 0 where
   pub started : a.starts ≡ a.count
   pub keyed : a.keys ≡ a.count
   pub trusted : a.confidences ≡ a.count
-  pub kept : layout_for (meant a) ≡ Found l
+  pub kept : layout_for (meant a) ≡ Some l
 
 module _ (a : Asked) where
   abbrev pub Unequal : Bool → Type 0
   Unequal b = unequal a.starts a.count a.keys a.confidences ≡ b
 
-  pub by_lengths : Unequal true → Missing ≡ layout_asked a
+  pub by_lengths : Unequal true → None ≡ layout_asked a
   by_lengths u = rw u
 
-  pub by-gap : {gap : ℕ} → Unequal false → gap ≡ a.gap → gap < a.count → Missing ≡ layout_asked a
+  pub by-gap : {gap : ℕ} → Unequal false → gap ≡ a.gap → gap < a.count → None ≡ layout_asked a
   by-gap u g less = rw (u, ← g, lt-ltb _ _ less)
 
-  pub by_layout : {gap : ℕ} {found : FoundLayout} → Unequal false → gap ≡ a.gap → a.count ≤ gap → found ≡ layout_for (meant a) → found ≡ layout_asked a
+  pub by_layout : {gap : ℕ} {found : Option Layout} → Unequal false → gap ≡ a.gap → a.count ≤ gap → found ≡ layout_for (meant a) → found ≡ layout_asked a
   by_layout u g all e = rw (u, ← g, le-ltb _ _ all) e
 
   pub equal-lengths : Unequal false → (a.starts ≡ a.count) × (a.keys ≡ a.count) × (a.confidences ≡ a.count)
@@ -90,7 +89,7 @@ module _ (a : Asked) where
         eqb-true a.confidences a.count (not-false _ (failed 2)),
       )
 
-  pub held : {l : Layout} → layout_asked a ≡ Found l → Held a l
+  pub held : {l : Layout} → layout_asked a ≡ Some l → Held a l
   held {l} = go apart refl
     where
       longer : Bool
@@ -99,7 +98,7 @@ module _ (a : Asked) where
       apart : Bool
       apart = longer || ltb a.gap a.count
 
-      go : (b : Bool) → apart ≡ b → cond b Missing (layout_for (meant a)) ≡ Found l → Held a l
+      go : (b : Bool) → apart ≡ b → cond b None (layout_for (meant a)) ≡ Some l → Held a l
       go true t q = let z : ◌≡◌ {A = ℕ} 0 1 = cc in absurd (omega arith)
       go false t q =
           let same = equal-lengths (left-failed longer (ltb a.gap a.count) t) in

@@ -1,12 +1,11 @@
 -- A card's segments in lent rows: four slices of packed numbers side by side. Definitions only.
-use Rattle.std.specs.Prelude.{ℕ, Bool, not, ◌||◌, cond, List, [], ◌∷◌, map, eqb, ltb, length, get_or}
+use Rattle.std.specs.Prelude.{ℕ, Bool, not, ◌||◌, cond, List, [], ◌∷◌, map, eqb, ltb, length, get_or, Option, None}
 use Rattle.laws.specs.Front.{front, list, shortest}
 use Rattle.laws.specs.Table.{any_of}
 use Rattle.card.specs.Layout.{Meaning}
 use Rattle.card.specs.Rules.{start_at, layout_for}
-use Rattle.card.specs.declared.layout.FoundLayout.{FoundLayout}
-use Rattle.card.specs.declared.layout.FoundLayout.TheVariants.{Missing}
 use Rattle.card.specs.declared.layout.Segment.{Segment}
+use Rattle.card.specs.declared.layout.Layout.{Layout}
 
 -- where each segment starts and ends in ms, its key's number, its confidence in thousandths
 pub record CardRows : Type 0 where
@@ -57,5 +56,5 @@ unfoldable pub unequal : ℕ → ℕ → ℕ → ℕ → Bool
 unequal starts ends keys confidences = any_of (not (eqb starts ends) ∷ not (eqb keys ends) ∷ not (eqb confidences ends) ∷ [])
 
 -- the layout of a meaning that is told by lists of these lengths: none where they are not equally long, or where one of the segments, the first at `gap`, does not start where it has to
-abbrev pub layout_of_lists : ℕ → ℕ → ℕ → ℕ → ℕ → Meaning → FoundLayout
-layout_of_lists starts ends keys confidences gap m = cond (unequal starts ends keys confidences || ltb gap ends) Missing (layout_for m)
+abbrev pub layout_of_lists : ℕ → ℕ → ℕ → ℕ → ℕ → Meaning → Option Layout
+layout_of_lists starts ends keys confidences gap m = cond (unequal starts ends keys confidences || ltb gap ends) None (layout_for m)

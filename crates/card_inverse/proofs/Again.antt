@@ -1,4 +1,5 @@
 -- The rows of a meaning that a card holds are written as its card: no list is longer, no start is off.
+use Rattle.std.specs.Prelude.{is_some}
 use mathlib.Core.Path.{◌≡◌, refl, sym, ap, ap₂, ◌∙◌}
 use mathlib.Core.Bool.{Bool, true, false, not}
 use mathlib.Core.List.{List}
@@ -11,7 +12,7 @@ use borrow.Author.Tests.{eq-eqb, le-ltb}
 use Rattle.laws.specs.Front.{list}
 use Rattle.laws.proofs.Front.{length-list, get_or-list, list_same, list-own}
 use Rattle.laws.proofs.First.{first_found}
-use Rattle.card.specs.Layout.{Meaning, is_found}
+use Rattle.card.specs.Layout.{Meaning}
 use Rattle.card.specs.Rules.{before, card_segment, start_at, layout_for}
 use Rattle.card.specs.declared.layout.Segment.{Segment}
 use Rattle.card_form.specs.Form.{card_for}
@@ -66,7 +67,7 @@ module _ (ss : List Segment) where
       rw (eq-eqb _ _ starts, eq-eqb _ _ keys, eq-eqb _ _ confidences)
 
 -- the rows of a meaning that a card holds can be written, and give its card
-module _ (m : Meaning) (held : is_found (layout_for m) ≡ true) where
+module _ (m : Meaning) (held : is_some (layout_for m) ≡ true) where
   said : packed_meaning m.header (rows_of m.segments).ends (rows_of m.segments).keys (rows_of m.segments).confidences ≡ m
   said = ap (λ (ss : List Segment). record { header = m.header; segments = ss }) (segments-are m.segments)
 
@@ -75,7 +76,7 @@ module _ (m : Meaning) (held : is_found (layout_for m) ≡ true) where
   layout_is = rw (equal m.segments, le-ltb _ _ (gap-behind m.segments)) (ap layout_for said)
 
   writable-rows : packed_unwritable m.header (rows_of m.segments) ≡ false
-  writable-rows = ap not (ap is_found layout_is ∙ held)
+  writable-rows = ap not (ap is_some layout_is ∙ held)
 
   pub packed-again : (lent : List ℕ) → packed_call m.header (rows_of m.segments) lent ≡ written_as false (card_for m) lent
   packed-again lent = ap₂ (λ (b : Bool) (card : List ℕ). written_as b card lent) writable-rows (ap card_for said)

@@ -1,4 +1,5 @@
 -- An outcome that is not refused tells a meaning, and its first rows are that meaning's.
+use Rattle.std.specs.Prelude.{is_some}
 use mathlib.Core.Path.{◌≡◌, refl, sym, ap, ◌∙◌}
 use mathlib.Core.Bool.{false}
 use mathlib.Core.List.{List}
@@ -9,7 +10,6 @@ use lib.Seq.{take_at}
 use Rattle.laws.specs.Front.{front}
 use Rattle.laws.proofs.Front.{length-list}
 use Rattle.bits.specs.Bits.{AllBytes}
-use Rattle.card.specs.Layout.{is_found}
 use Rattle.card.specs.Rules.{start_at}
 use Rattle.card.specs.declared.layout.Segment.{Segment}
 use Rattle.card_form.specs.Rows.{CardRows, rows_in, rows_of, holding_card}
@@ -52,5 +52,5 @@ written-again bytes bytewise rows none lent = again bytes bytewise rows (read_of
 
 pub analysed-is-read : AnalysedIsRead
 analysed-is-read a w rows room =
-    let card : IsCardOf (meaning_of a) (card_of a) = record { held = ap is_found (written_in a w).1; written = refl } in
+    let card : IsCardOf (meaning_of a) (card_of a) = record { held = ap is_some (written_in a w).1; written = refl } in
     written-is-read (card_of a) rows (meaning_of a) card (rw (length-list (packed_at a.ends a.keys a.confidences) (length a.ends)) room)

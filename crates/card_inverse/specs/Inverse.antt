@@ -1,14 +1,14 @@
 -- Reading is the exact inverse of writing, over all layouts together. The statements; proofs/Inverse.antt and Numbers.antt prove them.
-use Rattle.std.specs.Prelude.{◌≡◌, true, List, ℕ, ◌≤◌, length}
+use Rattle.std.specs.Prelude.{◌≡◌, true, List, ℕ, ◌≤◌, length, is_some}
 use Rattle.bits.specs.Bits.{AllBytes}
-use Rattle.card.specs.Layout.{Meaning, most_segments, is_found}
+use Rattle.card.specs.Layout.{Meaning, most_segments}
 use Rattle.card.specs.Rules.{layout_for}
 use Rattle.card_form.specs.Form.{card_for}
 use Rattle.card_reader.specs.Reading.{refused, says, read_of}
 
 -- bytes are the card of a meaning that one holds
 pub record IsCardOf (m : Meaning) (bytes : List ℕ) : Type 0 where
-  pub held : is_found (layout_for m) ≡ true
+  pub held : is_some (layout_for m) ≡ true
   pub written : bytes ≡ card_for m
 
 -- bytes that are read as a meaning are its card, and there are rows for its segments

@@ -1,18 +1,18 @@
 -- The analysis that a card is written from, in seconds and parts of one, its meaning in packed numbers, and the layout of its card. Definitions only.
-use Rattle.std.specs.Prelude.{ℕ, ◌+◌, Bool, not, List, length, get_or, Float}
+use Rattle.std.specs.Prelude.{ℕ, ◌+◌, Bool, not, List, length, get_or, Float, Option, is_some, unwrap_or}
 use Rattle.std.specs.Float.{nan}
 use Rattle.std.specs.Float.Ieee.{eq}
 use Rattle.laws.specs.First.{first}
 use Rattle.laws.specs.Front.{list}
 use Rattle.laws.specs.Values.{plus_zero}
-use Rattle.packed.specs.Packing.{number_or, thousandths_of, milliseconds_of}
-use Rattle.card.specs.Layout.{Meaning, last_end, is_found}
+use Rattle.packed.specs.Packing.{thousandths_of, milliseconds_of}
+use Rattle.card.specs.Layout.{Meaning, last_end}
 use Rattle.card.specs.Rules.{before}
 use Rattle.card_form.specs.Rows.{layout_of_lists}
 use Rattle.card_judge.specs.declared.analysed.Overall.{Overall}
-use Rattle.card.specs.declared.layout.FoundLayout.{FoundLayout}
 use Rattle.card.specs.declared.layout.Header.{Header}
 use Rattle.card.specs.declared.layout.Segment.{Segment}
+use Rattle.card.specs.declared.layout.Layout.{Layout}
 
 -- what is said of the whole track, and the segments in four lists
 pub record Analysis : Type 0 where
@@ -29,11 +29,11 @@ analysis overall starts ends keys confidences = record { overall = overall; star
 -- ---- packed numbers, the same in every layout: what can't be packed counts as the number above the limit, which breaks the rules of each
 -- thousandths of a float, rounded down
 abbrev pub packed_part : Float → ℕ
-packed_part x = number_or 1001 (thousandths_of x)
+packed_part x = unwrap_or (thousandths_of x) 1001
 
 -- milliseconds of a float, rounded down
 abbrev pub packed_end : Float → ℕ
-packed_end x = number_or (last_end + 1) (milliseconds_of x last_end)
+packed_end x = unwrap_or (milliseconds_of x last_end) (last_end + 1)
 
 -- the header
 abbrev pub packed_header : Overall → Header
@@ -70,9 +70,9 @@ abbrev pub first_gap : List Float → List Float → ℕ
 first_gap starts ends = first (gap_at starts ends) (length ends) 0
 
 -- the layout that it is written in
-unfoldable pub layout_of : Analysis → FoundLayout
+unfoldable pub layout_of : Analysis → Option Layout
 layout_of a = layout_of_lists (length a.starts) (length a.ends) (length a.keys) (length a.confidences) (first_gap a.starts a.ends) (meaning_of a)
 
 -- number 11: an analysis that no card holds
 abbrev pub unwritable : Analysis → Bool
-unwritable a = not (is_found (layout_of a))
+unwritable a = not (is_some (layout_of a))

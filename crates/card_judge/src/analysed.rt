@@ -3,10 +3,10 @@ ghost use Rattle.std.specs.Prelude.{◌≡◌, length};
 ghost use Rattle.card.specs.Rules.{first_broken, card_broken};
 ghost use Rattle.card_judge.specs.Analysed.{packed_part, packed_header, packed_segment, packed_segments, meaning, analysis, first_gap, layout_of};
 
-use card::layout::{FoundLayout, Header, LAST_END, Layout, Segment, layout_1, layout_2};
+use card::layout::{Header, LAST_END, Layout, Segment, layout_1, layout_2};
 use card::rules::{header_broken, segment_broken};
 use card_form::unequal_lengths;
-use packed::{milliseconds, number_or, thousandths};
+use packed::{milliseconds, thousandths};
 
 // What an analysis says of the whole track: keys by number, 24 for a missing one.
 #[derive(Clone, Copy)]
@@ -22,7 +22,7 @@ pub struct Overall {
 fn packed_part(x: f32) -> u64
     ensures { result ≡ packed_part x }
 {
-    number_or(1001, thousandths(x))
+    thousandths(x).unwrap_or(1001)
 }
 
 // A header's packed numbers.
@@ -42,9 +42,8 @@ pub fn packed_header(o: Overall) -> Header
 pub fn packed_segment(end: f64, key: u8, confidence: f32) -> Segment
     ensures { result ≡ packed_segment end key confidence }
 {
-    let ends = milliseconds(end, LAST_END);
     Segment {
-        end: number_or(LAST_END + 1, ends),
+        end: milliseconds(end, LAST_END).unwrap_or(LAST_END + 1),
         key: key as u64,
         confidence: packed_part(confidence),
     }
@@ -110,23 +109,23 @@ pub fn layout_of(
     ends: &[f64],
     keys: &[u8],
     confidences: &[f32],
-) -> FoundLayout
+) -> Option<Layout>
     ensures { result ≡ layout_of (analysis o starts.now ends.now keys.now confidences.now) }
 {
     let count = ends.len();
     let first = layout_1();
     let second = layout_2();
     if unequal_lengths(starts.len(), count, keys.len(), confidences.len()) {
-        return FoundLayout::Missing;
+        return None;
     }
     if first_gap(starts, ends) < count {
-        return FoundLayout::Missing;
+        return None;
     }
     if !is_broken(first, o, ends, keys, confidences) {
-        return FoundLayout::Found(first);
+        return Some(first);
     }
     if !is_broken(second, o, ends, keys, confidences) {
-        return FoundLayout::Found(second);
+        return Some(second);
     }
-    FoundLayout::Missing
+    None
 }

@@ -1,4 +1,5 @@
 -- What is kept of a card whose layout is known stands on it, breaks no rule, and is written in the layout that it needs.
+use Rattle.std.specs.Prelude.{Some}
 use mathlib.Core.Path.{◌≡◌, refl, sym, ap, ◌∙◌}
 use mathlib.Core.Bool.{Bool, true, false, not, ◌&&◌, cond}
 use mathlib.Core.List.{List}
@@ -14,7 +15,6 @@ use Rattle.bits.specs.Bits.{bits_of_bytes}
 use Rattle.card.specs.Layout.{Meaning, layout1, layouts, numbered_in}
 use Rattle.card.specs.Rules.{header_broken, card_broken, needless}
 use Rattle.card.specs.declared.layout.Layout.{Layout}
-use Rattle.card.specs.declared.layout.FoundLayout.TheVariants.{Found}
 use Rattle.card.specs.declared.layout.Header.{Header}
 use Rattle.card.specs.declared.layout.Segment.{Segment}
 use Rattle.card.proofs.Known.{Sound}
@@ -86,7 +86,7 @@ module _ (l : Layout) (bytes : List ℕ) (sound : Sound l) (there : header_width
     mended-good = sym (by-segments l (mended_header l header) at kept header-good refl) ∙ le-ltb _ _ kept-good
 
 -- the layout that a meaning is written in, where the old one holds it, is one that it needs
-pub mended-needed : (l : Layout) (m : Meaning) → numbered_in layouts l.number ≡ Found l → card_broken l m ≡ false → Needed (mended_layout l m) m
+pub mended-needed : (l : Layout) (m : Meaning) → numbered_in layouts l.number ≡ Some l → card_broken l m ≡ false → Needed (mended_layout l m) m
 unfolding needless
 mended-needed l m known good = either (needless l m) refl
   where

@@ -1,4 +1,5 @@
 -- A call that writes a card: what its writer needs where a layout holds what is asked, and what comes of each way out.
+use Rattle.std.specs.Prelude.{Option, Some, None, is_some}
 use mathlib.Core.Path.{◌≡◌, sym, ap, subst, ◌∙◌}
 use mathlib.Core.Bool.{Bool, not}
 use mathlib.Core.List.{List}
@@ -8,10 +9,8 @@ use Rattle.laws.specs.Front.{front}
 use Rattle.written.specs.Outcome.{answered, bytes_outcome, BytesOutcome, written_as}
 use Rattle.written.specs.declared.Written.{Written}
 use Rattle.written.proofs.Outcomes.{cannot-write, too_short, wrote}
-use Rattle.card.specs.Layout.{LayoutFits, is_found}
+use Rattle.card.specs.Layout.{LayoutFits}
 use Rattle.card.specs.declared.layout.Layout.{Layout}
-use Rattle.card.specs.declared.layout.FoundLayout.{FoundLayout}
-use Rattle.card.specs.declared.layout.FoundLayout.TheVariants.{Found, Missing}
 use Rattle.card.proofs.Known.{known-sound}
 use Rattle.card.proofs.Chosen.{Needed, chosen-needed}
 use Rattle.card_form.specs.Form.{card_bytes, card_for, card_size}
@@ -22,19 +21,19 @@ use Rattle.card_pen.proofs.Puts.{card-length, few-written}
 module _ (a : Asked) (lent : List ℕ) where
   -- no layout holds it
   abbrev refuses : Bool
-  refuses = not (is_found (layout_asked a))
+  refuses = not (is_some (layout_asked a))
 
   -- what the call comes to
   abbrev left_by : BytesOutcome
   left_by = written_as refuses (card_for (meant a)) lent
 
-  of-layout : {found other : FoundLayout} → found ≡ layout_asked a → found ≡ other → refuses ≡ not (is_found other)
-  of-layout e f = ap (λ (x : FoundLayout). not (is_found x)) (sym e ∙ f)
+  of-layout : {found other : Option Layout} → found ≡ layout_asked a → found ≡ other → refuses ≡ not (is_some other)
+  of-layout e f = ap (λ (x : Option Layout). not (is_some x)) (sym e ∙ f)
 
-  pub none-holds : {found : FoundLayout} {r : Written} → found ≡ layout_asked a → found ≡ Missing → r ≡ answered 11 0 → bytes_outcome r lent ≡ left_by
+  pub none-holds : {found : Option Layout} {r : Written} → found ≡ layout_asked a → found ≡ None → r ≡ answered 11 0 → bytes_outcome r lent ≡ left_by
   none-holds e f r = cannot-write refuses (card_for (meant a)) lent (of-layout e f) r
 
-  module _ {found : FoundLayout} {l : Layout} (e : found ≡ layout_asked a) (f : found ≡ Found l) where
+  module _ {found : Option Layout} {l : Layout} (e : found ≡ layout_asked a) (f : found ≡ Some l) where
     known : Held a l
     known = held a (sym e ∙ f)
 

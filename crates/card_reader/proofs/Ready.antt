@@ -1,4 +1,5 @@
 -- A card that no row of the table refuses: what each row's failure says.
+use Rattle.std.specs.Prelude.{Option, Some, None, is_some, Result, Ok, Err}
 use mathlib.Core.Path.{◌≡◌, refl, sym, ap, subst}
 use mathlib.Core.Bool.{Bool, true, false, not, ◌&&◌}
 use mathlib.Core.List.{List}
@@ -11,21 +12,18 @@ use Rattle.laws.specs.Front.{list}
 use Rattle.laws.proofs.Front.{length-list, get_or-list}
 use Rattle.laws.proofs.Table.{fell-through, left-failed, right-failed}
 use Rattle.bits.specs.Bits.{bits_of_bytes}
-use Rattle.card.specs.Layout.{is_found, layout_or1, HeaderFits, SegmentFits}
+use Rattle.card.specs.Layout.{layout_or1, HeaderFits, SegmentFits}
 use Rattle.card.specs.Rules.{card_broken, needless}
 use Rattle.card.specs.declared.layout.Layout.{Layout}
-use Rattle.card.specs.declared.layout.FoundLayout.{FoundLayout}
-use Rattle.card.specs.declared.layout.FoundLayout.TheVariants.{Found, Missing}
 use Rattle.card.proofs.Fits.{CardFits, card-fits}
 use Rattle.card.proofs.Known.{Sound, found-sound}
 use Rattle.card_form.specs.Form.{segment_place, card_size, number_on, header_on, count_on, segment_on, meaning_on, filler_set}
+use Rattle.card_reader.specs.declared.judge.CardError.{CardError}
 use Rattle.card_reader.specs.Reading.{layout_on, reading_table, judged_of}
-use Rattle.card_reader.specs.declared.judge.CardJudged.{CardJudged}
-use Rattle.card_reader.specs.declared.judge.CardJudged.TheVariants.{Refused, Readable}
 
 -- what is known of a card that is read under a layout
 pub record Ready (bytes : List ℕ) (rows : ℕ) (l : Layout) : Type 0 where
-  pub known : layout_on (bits_of_bytes bytes) ≡ Found l
+  pub known : layout_on (bits_of_bytes bytes) ≡ Some l
   pub sound : Sound l
   pub long : 7 ≤ length bytes
   pub whole : length bytes ≡ card_size l (count_on l (bits_of_bytes bytes))
@@ -35,14 +33,14 @@ pub record Ready (bytes : List ℕ) (rows : ℕ) (l : Layout) : Type 0 where
   pub room : count_on l (bits_of_bytes bytes) ≤ rows
 
 -- a card is not refused
-abbrev is_readable : CardJudged → Bool
-is_readable (Refused number) = false
-is_readable (Readable l) = true
+abbrev is_readable : Result Layout CardError → Bool
+is_readable (Err number) = false
+is_readable (Ok l) = true
 
 -- a layout that was found is the one that was asked for
-found-known : {found : FoundLayout} {l : Layout} → not (is_found found) ≡ false → layout_or1 found ≡ l → found ≡ Found l
-found-known {found = Found k} t e = ap Found e
-found-known {found = Missing} t e = absurd (no_more t)
+found-known : {found : Option Layout} {l : Layout} → not (is_some found) ≡ false → layout_or1 found ≡ l → found ≡ Some l
+found-known {found = Some k} t e = ap Some e
+found-known {found = None} t e = absurd (no_more t)
   where
     no_more : true ≡ false → ⊥
     no_more q = let z : ◌≡◌ {A = ℕ} 0 1 = cc in omega arith
@@ -53,12 +51,12 @@ known-length true same e k = not-false same e
 known-length false true e k = refl
 known-length false false e k = sym k
 
-pub ready : (bytes : List ℕ) (rows : ℕ) (l : Layout) → judged_of bytes rows ≡ Readable l → Ready bytes rows l
+pub ready : (bytes : List ℕ) (rows : ℕ) (l : Layout) → judged_of bytes rows ≡ Ok l → Ready bytes rows l
 unfolding judged_of
 ready bytes rows l e =
     let bits = bits_of_bytes bytes in
     let m = layout_or1 (layout_on bits) in
-    let fell = fell-through is_readable (reading_table bytes bits m rows) (Readable m) {answer = Readable l} refl refl e in
+    let fell = fell-through is_readable (reading_table bytes bits m rows) (Ok m) {answer = Ok l} refl refl e in
     let same : m ≡ l = cc fell.below in
     let broken = card_broken m (meaning_on m bits) in
     let filler = filler_set m bits in
@@ -66,7 +64,7 @@ ready bytes rows l e =
       known = found-known (fell.failed 2) same;
       sound = subst Sound same (found-sound (number_on bits));
       long = ltb-false (length bytes) 7 (fell.failed 0);
-      whole = subst (λ (k : Layout). length bytes ≡ card_size k (count_on k bits)) same (eqb-true _ _ (known-length (is_found (layout_on bits)) (eqb (length bytes) (card_size m (count_on m bits))) (fell.failed 1) (fell.failed 2)));
+      whole = subst (λ (k : Layout). length bytes ≡ card_size k (count_on k bits)) same (eqb-true _ _ (known-length (is_some (layout_on bits)) (eqb (length bytes) (card_size m (count_on m bits))) (fell.failed 1) (fell.failed 2)));
       good = subst (λ (k : Layout). card_broken k (meaning_on k bits) ≡ false) same (left-failed broken filler (fell.failed 3));
       clear = subst (λ (k : Layout). filler_set k bits ≡ false) same (right-failed broken filler (fell.failed 3));
       needed = subst (λ (k : Layout). needless k (meaning_on k bits) ≡ false) same (fell.failed 4);

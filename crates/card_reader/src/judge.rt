@@ -5,18 +5,36 @@ ghost use Rattle.bits.specs.Bits.{bits_of_bytes};
 ghost use Rattle.card.specs.Layout.{LayoutFits};
 ghost use Rattle.card.specs.Rules.{first_broken, card_broken, needless};
 ghost use Rattle.card_form.specs.Form.{segment_place, count_on, segment_on, meaning_on};
-ghost use Rattle.card_reader.specs.Reading.{judged_of};
+ghost use Rattle.card_reader.specs.Reading.{refusal_number, judged_of};
 
 use crate::on_card::{count_on, filler_set, header_on, number_on, segment_on};
-use card::layout::{Layout, is_found, layout_1, layout_numbered, layout_or_1};
+use card::layout::{Layout, layout_1, layout_numbered};
 use card::rules::{header_broken, segment_broken};
 use card_form::card_size;
 
-// A card that is refused by a number, or the layout under which it is read.
-#[derive(Clone, Copy)]
-pub enum CardJudged {
-    Refused(u32),
-    Readable(Layout),
+// Why a card can't be read.
+#[derive(Clone, Copy, PartialEq, Eq)]
+pub enum CardError {
+    WrongLength,
+    UnknownLayout,
+    BrokenRule,
+    NeedlessLayout,
+    TooFewRows,
+}
+
+impl CardError {
+    // The number by which the request's table refuses.
+    pub fn number(self) -> u32
+        ensures { result ≡ refusal_number self }
+    {
+        match self {
+            CardError::WrongLength => 20,
+            CardError::UnknownLayout => 21,
+            CardError::BrokenRule => 22,
+            CardError::NeedlessLayout => 23,
+            CardError::TooFewRows => 24,
+        }
+    }
 }
 
 // The first of `count` segments that breaks a rule of the layout `rules`, or their count.
@@ -61,32 +79,28 @@ fn is_needless(bytes: &[u8], l: Layout, count: usize) -> bool
     !is_broken(bytes, l, layout_1(), count)
 }
 
-// What the table says of bytes, with so many rows for segments.
-pub fn judge_card(bytes: &[u8], rows: usize) -> CardJudged
+// The layout under which bytes are read, with so many rows for segments, or why they can't be.
+pub fn judge_card(bytes: &[u8], rows: usize) -> Result<Layout, CardError>
     ensures { result ≡ judged_of bytes.now rows }
 {
-    let found = layout_numbered(number_on(bytes));
-    let known = is_found(found);
-    let l = layout_or_1(found);
-    let short = bytes.len() < 7;
-    if short {
-        return CardJudged::Refused(20);
+    if bytes.len() < 7 {
+        return Err(CardError::WrongLength);
     }
-    if !known {
-        return CardJudged::Refused(21);
-    }
+    let Some(l) = layout_numbered(number_on(bytes)) else {
+        return Err(CardError::UnknownLayout);
+    };
     let count = count_on(bytes, l);
     if !(bytes.len() == card_size(l, count)) {
-        return CardJudged::Refused(20);
+        return Err(CardError::WrongLength);
     }
     if is_broken(bytes, l, l, count) | filler_set(bytes, l, count) {
-        return CardJudged::Refused(22);
+        return Err(CardError::BrokenRule);
     }
     if is_needless(bytes, l, count) {
-        return CardJudged::Refused(23);
+        return Err(CardError::NeedlessLayout);
     }
     if rows < count {
-        return CardJudged::Refused(24);
+        return Err(CardError::TooFewRows);
     }
-    CardJudged::Readable(l)
+    Ok(l)
 }

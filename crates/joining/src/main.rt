@@ -8,7 +8,7 @@ ghost use Rattle.keys.specs.Numbers.{key_at};
 ghost use Rattle.joining.specs.Threes.{three, windows_of_three, shortened_three};
 
 use numbers::counts::fewer;
-use packed::{milliseconds, number_or};
+use packed::milliseconds;
 use records::{record_at, shorten_records};
 use std::io;
 use timeline::segment::{Segment, emptied_segment};
@@ -65,8 +65,7 @@ fn part(start: f64, end: f64, number: u8, windows: u32) -> Segment
 
 // Prints a time in milliseconds.
 fn print_time(rt: &impl Print, time: f64) -> io::Result<()> {
-    let packed = milliseconds(time, 86400000);
-    let number = number_or(86400001, packed);
+    let number = milliseconds(time, 86400000).unwrap_or(86400001);
     print!(rt; "{number}")
 }
 

@@ -1,4 +1,5 @@
 -- The lines of a card with a key, of one without, and of one that is refused.
+use Rattle.std.specs.Prelude.{Result, Ok, Err}
 use mathlib.Core.Path.{◌≡◌, sym, ap}
 use mathlib.Core.Bool.{Bool, cond}
 use mathlib.Core.List.{List, ◌++◌}
@@ -12,9 +13,8 @@ use Rattle.card.specs.Rules.{no_key}
 use Rattle.card.specs.declared.layout.Layout.{Layout}
 use Rattle.card.specs.declared.layout.Segment.{Segment}
 use Rattle.card_form.specs.Form.{meaning_on}
-use Rattle.card_reader.specs.Reading.{judged_of, read_as}
-use Rattle.card_reader.specs.declared.judge.CardJudged.{CardJudged}
-use Rattle.card_reader.specs.declared.judge.CardJudged.TheVariants.{Refused, Readable}
+use Rattle.card_reader.specs.declared.judge.CardError.{CardError}
+use Rattle.card_reader.specs.Reading.{refusal_number, judged_of, read_as}
 use Rattle.card_reader.proofs.Ready.{ready, all_there}
 use Rattle.listing.specs.Lines.{key_line}
 use Rattle.listing.specs.Listing.{segment_lines, no_key_line, refusal_line, card_lines, listed, listing_of, longest_listing}
@@ -35,13 +35,13 @@ card-short key ss few = rw length-append (omega (arith, key-short key, lines_fit
 
 -- ---- what is listed of what was judged
 module _ (card : List ℕ) where
-  pub of-refused : (number : ℕ) → judged_of card most_segments ≡ Refused number → refusal_line number ≡ listing_of card
+  pub of-refused : (error : CardError) → judged_of card most_segments ≡ Err error → refusal_line (refusal_number error) ≡ listing_of card
   unfolding listing_of
-  of-refused number e = sym (ap (λ (j : CardJudged). listed (read_as (bits_of_bytes card) j)) e)
+  of-refused error e = sym (ap (λ (j : Result Layout CardError). listed (read_as (bits_of_bytes card) j)) e)
 
-  pub of-readable : (l : Layout) → judged_of card most_segments ≡ Readable l → card_lines (meaning_on l (bits_of_bytes card)) ≡ listing_of card
+  pub of-readable : (l : Layout) → judged_of card most_segments ≡ Ok l → card_lines (meaning_on l (bits_of_bytes card)) ≡ listing_of card
   unfolding listing_of
-  of-readable l e = sym (ap (λ (j : CardJudged). listed (read_as (bits_of_bytes card) j)) e)
+  of-readable l e = sym (ap (λ (j : Result Layout CardError). listed (read_as (bits_of_bytes card) j)) e)
 
-  pub can-list : (l : Layout) → judged_of card most_segments ≡ Readable l → CanList card l
+  pub can-list : (l : Layout) → judged_of card most_segments ≡ Ok l → CanList card l
   can-list l e = let r = ready card most_segments l e in record { fits = r.sound.fits; few = r.room; long = all_there r }

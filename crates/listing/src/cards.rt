@@ -9,7 +9,7 @@ ghost use Rattle.listing.specs.inside.Readable.{CanList};
 
 use crate::lines::{write_bytes, write_key_line, write_line, write_number};
 use card::layout::{Layout, MOST_SEGMENTS};
-use card_reader::judge::{CardJudged, judge_card};
+use card_reader::judge::judge_card;
 use card_reader::on_card::{count_on, header_on, segment_on};
 
 // Zeros, as many as the longest listing has bytes.
@@ -63,9 +63,8 @@ pub fn write_listing(card: &[u8], bytes: &mut [u8]) -> usize
     requires { longest_listing ≤ length bytes.old }
     ensures { AtFront (listing_of card.now) bytes.old bytes.new result }
 {
-    let judged = judge_card(card, MOST_SEGMENTS);
-    match judged {
-        CardJudged::Refused(number) => write_refusal(number, bytes),
-        CardJudged::Readable(l) => write_card_lines(card, l, bytes),
+    match judge_card(card, MOST_SEGMENTS) {
+        Err(error) => write_refusal(error.number(), bytes),
+        Ok(l) => write_card_lines(card, l, bytes),
     }
 }

@@ -1,4 +1,5 @@
 -- Each way out of the call is a row of the table, those above it having failed, or the mended card.
+use Rattle.std.specs.Prelude.{Option, Some, None, is_some}
 use mathlib.Core.Path.{◌≡◌, sym, ap, ap₂, subst, ◌∙◌}
 use mathlib.Core.Bool.{Bool, true, false, not, ◌&&◌}
 use mathlib.Core.List.{List}
@@ -11,11 +12,9 @@ use Rattle.laws.specs.Front.{front}
 use Rattle.laws.proofs.Table.{Reads, here, next, end, reads}
 use Rattle.numbers.specs.Flags.{one_if}
 use Rattle.bits.specs.Bits.{bits_of_bytes}
-use Rattle.card.specs.Layout.{LayoutFits, layouts, numbered_in, is_found, layout_or1}
+use Rattle.card.specs.Layout.{LayoutFits, layouts, numbered_in, layout_or1}
 use Rattle.card.specs.Rules.{card_broken}
 use Rattle.card.specs.declared.layout.Layout.{Layout}
-use Rattle.card.specs.declared.layout.FoundLayout.{FoundLayout}
-use Rattle.card.specs.declared.layout.FoundLayout.TheVariants.{Found, Missing}
 use Rattle.card.specs.declared.layout.Header.{Header}
 use Rattle.card.specs.declared.layout.Segment.{Segment}
 use Rattle.card.proofs.Known.{Sound, known-sound, found_number}
@@ -50,8 +49,8 @@ module _ (bytes room : List ℕ) where
   pub too_short : {r : CardMended} → length bytes < 7 → r ≡ card_mended 40 0 0 0 0 → refused_by r ≡ mend_call bytes room
   too_short less e = ap refused_by e ∙ decided (here (lt-ltb _ _ less))
 
-  pub unknown-layout : {r : CardMended} → 7 ≤ length bytes → layout_on bits ≡ Missing → r ≡ card_mended 41 0 0 0 0 → refused_by r ≡ mend_call bytes room
-  unknown-layout long missing e = ap refused_by e ∙ decided (next (le-ltb _ _ long) (here (ap (λ (f : FoundLayout). not (is_found f)) missing)))
+  pub unknown-layout : {r : CardMended} → 7 ≤ length bytes → layout_on bits ≡ None → r ≡ card_mended 41 0 0 0 0 → refused_by r ≡ mend_call bytes room
+  unknown-layout long missing e = ap refused_by e ∙ decided (next (le-ltb _ _ long) (here (ap (λ (f : Option Layout). not (is_some f)) missing)))
 
   -- the layout is known, and its header is there
   module _ (l : Layout) (headed : Headed bytes l) where
@@ -60,7 +59,7 @@ module _ (bytes room : List ℕ) where
         let is : l ≡ named = ap layout_or1 (sym headed.known) in
         decided
         (next (le-ltb _ _ headed.long)
-        (next (ap (λ (f : FoundLayout). not (is_found f)) headed.known)
+        (next (ap (λ (f : Option Layout). not (is_some f)) headed.known)
         (subst (λ (k : Layout). Reads (mended bytes k room) (drop 2 (mend_table bytes k room)) o) is r)))
 
     abbrev header : Header
@@ -105,7 +104,7 @@ module _ (bytes room : List ℕ) where
 
         need : Needed (mended_layout l (mended_meaning l bytes)) (mended_meaning l bytes)
         need =
-            let named : numbered_in layouts l.number ≡ Found l = ap (numbered_in layouts) (found_number layouts (number_on bits) headed.known) ∙ headed.known in
+            let named : numbered_in layouts l.number ≡ Some l = ap (numbered_in layouts) (found_number layouts (number_on bits) headed.known) ∙ headed.known in
             mended-needed l (mended_meaning l bytes) named (mended-good l bytes sound header-there keyed some)
 
         fits : LayoutFits to

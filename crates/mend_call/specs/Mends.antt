@@ -1,10 +1,10 @@
 -- What `ulyptesh_mend_card` promises, as one definition of what it is given. Definitions only.
-use Rattle.std.specs.Prelude.{ℕ, not, ◌&&◌, List, [], ◌∷◌, eqb, ltb, length}
+use Rattle.std.specs.Prelude.{ℕ, not, ◌&&◌, List, [], ◌∷◌, eqb, ltb, length, is_some}
 use Rattle.laws.specs.Front.{front}
 use Rattle.laws.specs.Table.{Check, ◌gives◌, first_of}
 use Rattle.numbers.specs.Flags.{one_if}
 use Rattle.bits.specs.Bits.{bits_of_bytes}
-use Rattle.card.specs.Layout.{is_found, layout_or1}
+use Rattle.card.specs.Layout.{layout_or1}
 use Rattle.card.specs.declared.layout.Layout.{Layout}
 use Rattle.card_form.specs.Form.{header_on, count_on}
 use Rattle.card_reader.specs.Reading.{layout_on}
@@ -33,7 +33,7 @@ abbrev pub mend_table : List ℕ → Layout → List ℕ → List (Check MendOut
 mend_table bytes l room =
     let bits = bits_of_bytes bytes in
     (ltb (length bytes) 7 gives unmended 40 room)
-    ∷ (not (is_found (layout_on bits)) gives unmended 41 room)
+    ∷ (not (is_some (layout_on bits)) gives unmended 41 room)
     ∷ (key_broken l (header_on l bits) gives unmended 42 room)
     ∷ ((not (has_no_key (header_on l bits)) && eqb (kept_on l bytes) 0) gives unmended 43 room)
     ∷ (ltb (length room) (length (mended_card l bytes)) gives unmended 44 room)

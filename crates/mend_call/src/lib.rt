@@ -5,7 +5,7 @@ ghost use Rattle.std.specs.Prelude.{◌≡◌};
 ghost use Rattle.mend_call.specs.Mends.{card_mended, mend_outcome, mend_call};
 ghost use Rattle.mend_call.specs.inside.Mendable.{Headed, Mendable};
 
-use card::layout::{FoundLayout, Header, Layout, layout_numbered};
+use card::layout::{Header, Layout, layout_numbered};
 use card_form::card_size;
 use card_mender::header::{alternate_goes, key_broken, mended_header};
 use card_mender::segments::{kept_count, mended_layout};
@@ -92,7 +92,7 @@ pub fn mend_card(bytes: &[u8], room: &mut [u8]) -> CardMended
     }
     let found = layout_numbered(number_on(bytes));
     match found {
-        FoundLayout::Missing => unmended(41),
-        FoundLayout::Found(l) => mend_headed(bytes, l, room),
+        None => unmended(41),
+        Some(l) => mend_headed(bytes, l, room),
     }
 }

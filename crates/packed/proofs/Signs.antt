@@ -1,4 +1,5 @@
 -- Where the sign and the kind of a float decide.
+use Rattle.std.specs.Prelude.{None}
 use mathlib.Core.Path.{◌≡◌, refl, sym, ap, ◌∙◌}
 use mathlib.Core.Bool.{Bool, true, false, cond}
 use Prim.Native.Nat.{ℕ, zero, suc, ◌+◌, ◌*◌, ◌/◌, ◌<◌, zero-le}
@@ -13,7 +14,6 @@ use Rattle.laws.specs.Values.{plus_zero}
 use Rattle.laws.proofs.Table.{told}
 use Rattle.laws.proofs.Signs.{nan_is}
 use Rattle.packed.specs.Packing.{limited, whole_times, below_zero}
-use Rattle.packed.specs.declared.Packed.TheVariants.{Refused}
 
 -- a finite float is below 0 where its sign says so and it isn't 0
 pub below-zero : (s : Bool) (m : ℕ) (e : ℤ) → lt (fin s m e) plus_zero ≡ below_zero s m
@@ -27,14 +27,14 @@ below-zero true (suc m) e =
 below-zero false m e = le-ltb (m * up e * 1) (0 * down e) (le_trans (le_of_eq (zero-mul (down e))) zero-le)
 
 -- ---- none
-pub times-of-nan : (x : Float) (n limit : ℕ) {flag : Bool} → flag ≡ is_nan x → flag ≡ true → Refused ≡ whole_times x n limit
+pub times-of-nan : (x : Float) (n limit : ℕ) {flag : Bool} → flag ≡ is_nan x → flag ≡ true → None ≡ whole_times x n limit
 times-of-nan x n limit e t = sym (ap (λ (y : Float). whole_times y n limit) (nan_is x (told e t)))
 
-pub times-below-zero : (x : Float) (n limit : ℕ) → lt x plus_zero ≡ true → Refused ≡ whole_times x n limit
+pub times-below-zero : (x : Float) (n limit : ℕ) → lt x plus_zero ≡ true → None ≡ whole_times x n limit
 times-below-zero nan n limit e = refl
 times-below-zero (inf s) n limit e = refl
-times-below-zero (fin s m e) n limit minus = ap (λ (b : Bool). cond b Refused (limited limit (m * up e * n / down e))) (sym minus ∙ below-zero s m e)
+times-below-zero (fin s m e) n limit minus = ap (λ (b : Bool). cond b None (limited limit (m * up e * n / down e))) (sym minus ∙ below-zero s m e)
 
 -- ---- some
 pub times-from-zero : (s : Bool) (m : ℕ) (e : ℤ) (n limit : ℕ) → lt (fin s m e) plus_zero ≡ false → whole_times (fin s m e) n limit ≡ limited limit (m * up e * n / down e)
-times-from-zero s m e n limit plus = ap (λ (b : Bool). cond b Refused (limited limit (m * up e * n / down e))) (sym (below-zero s m e) ∙ plus)
+times-from-zero s m e n limit plus = ap (λ (b : Bool). cond b None (limited limit (m * up e * n / down e))) (sym (below-zero s m e) ∙ plus)

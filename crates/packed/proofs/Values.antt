@@ -1,4 +1,5 @@
 -- What a float's bit pattern says of its size.
+use Rattle.std.specs.Prelude.{Some, None}
 use mathlib.Core.Path.{◌≡◌, refl, sym, ap, ◌∙◌, subst}
 use mathlib.Core.Bool.{Bool, true, false, cond}
 use mathlib.Core.Logic.{inl, inr}
@@ -15,7 +16,6 @@ use lib.Ieee.Fits.{down_pos}
 use lib.Ieee.Nearest.{div_same}
 use Rattle.laws.specs.Values.{plus_zero}
 use Rattle.packed.specs.Packing.{limited, whole_times}
-use Rattle.packed.specs.declared.Packed.TheVariants.{Number, Refused}
 use Rattle.packed.proofs.Signs.{times-from-zero}
 
 -- the fields of a float's pattern
@@ -50,7 +50,7 @@ module _ (f : Format) (x : Float) (fit : T (fits f x)) where
       subst (λ (y : Float). HasValue y s ((hid f + t) * 2 ^ k) (2 ^ low f)) (sym is) (odd_sign (prec f) s (hid f + t) k (low f))
 
   -- an infinity or a NaN
-  pub no_value : (n limit k : ℕ) → field_of f x ≡ suc k → suc k ≡ ones f → whole_times x n limit ≡ Refused
+  pub no_value : (n limit k : ℕ) → field_of f x ≡ suc k → suc k ≡ ones f → whole_times x n limit ≡ None
   unfolding of_fields
   no_value n limit k e all =
       let s = sign_of f x in
@@ -59,7 +59,7 @@ module _ (f : Format) (x : Float) (fit : T (fits f x)) where
       of-fields (suc k) e ∙ ap (λ (b : Bool). cond b (cond (eqb t 0) (inf s) nan) (odd (prec f) s (hid f + t) k (low f))) (eq-eqb (suc k) (ones f) all) in
       ap (λ (y : Float). whole_times y n limit) is ∙ either (eqb t 0)
     where
-      either : (b : Bool) → whole_times (cond b (inf (sign_of f x)) nan) n limit ≡ Refused
+      either : (b : Bool) → whole_times (cond b (inf (sign_of f x)) nan) n limit ≡ None
       either true = refl
       either false = refl
 
@@ -86,13 +86,13 @@ module _ (x : Float) (fit : T (fits binary64 x)) (plus : lt x plus_zero ≡ fals
   abbrev digits : ℕ
   digits = digits_of binary64 x
 
-  pub tiny : n ≤ 1000 → field ≡ 0 → Number 0 ≡ whole_times x n limit
+  pub tiny : n ≤ 1000 → field ≡ 0 → Some 0 ≡ whole_times x n limit
   tiny few e =
       let below : digits * 1 * n < 2 ^ 1074 =
       lt_of_le_of_lt (mul-le-mul {n₂ = 2 ^ 52} {m₂ = 1000} (le_trans (le_of_eq (mul-one digits)) (le_of_lt (mod-lt (to_bits binary64 x) (lit< tt)))) few) (lit< tt) in
       sym
       (times-of-value x (sign_of binary64 x) (digits * 1) (2 ^ 1074) n limit (lit< tt) (small-value binary64 x fit e) plus ∙ ap (limited limit) (div-eq_of_lt below)
-      ∙ ap (λ (b : Bool). cond b (Number 0) Refused) (le-leb 0 limit zero-le))
+      ∙ ap (λ (b : Bool). cond b (Some 0) None) (le-leb 0 limit zero-le))
 
   -- what a normal double holds
   normal : (k : ℕ) → field ≡ suc k → (suc k ≡ 2047 → ⊥) → whole_times x n limit ≡ limited limit ((2 ^ 52 + digits) * 2 ^ k * n / 2 ^ 1074)
@@ -106,7 +106,7 @@ module _ (x : Float) (fit : T (fits binary64 x)) (plus : lt x plus_zero ≡ fals
       normal k e (λ all. omega arith)
       ∙ ap (limited limit) (ap (λ (z : ℕ). (2 ^ 52 + digits) * 2 ^ k * n / 2 ^ z) apart ∙ cancel (2 ^ 52 + digits) n k (1075 - field))
 
-  pub big : 1 ≤ n → limit < 2 ^ 32 → 1055 ≤ field → Refused ≡ whole_times x n limit
+  pub big : 1 ≤ n → limit < 2 ^ 32 → 1055 ≤ field → None ≡ whole_times x n limit
   big some within many =
       let k = field - 1 in
       let e : field ≡ suc k = omega arith in
@@ -117,5 +117,5 @@ module _ (x : Float) (fit : T (fits binary64 x)) (plus : lt x plus_zero ≡ fals
             let q = (2 ^ 52 + digits) * 2 ^ k * n / 2 ^ 1074 in
             let large : 2 ^ 32 * 2 ^ 1074 ≤ (2 ^ 52 + digits) * 2 ^ k * n =
             mul-le-mul {n₁ = 2 ^ 52 * 2 ^ 1054} {m₁ = 1} (mul-le-mul {n₁ = 2 ^ 52} {m₁ = 2 ^ 1054} (omega arith) (pow_mono {i = 1054} (omega arith))) some in
-            sym (normal k e (λ all. omega arith) ∙ ap (λ (b : Bool). cond b (Number q) Refused) (lt-leb q limit (lt_of_lt_of_le within ((le-div_iff_mul-le (lit< tt)).1 large))))
+            sym (normal k e (λ all. omega arith) ∙ ap (λ (b : Bool). cond b (Some q) None) (lt-leb q limit (lt_of_lt_of_le within ((le-div_iff_mul-le (lit< tt)).1 large))))
       ]

@@ -2,66 +2,45 @@
 #![tactic(auto)]
 
 ghost use Rattle.std.specs.Prelude.{◌≡◌, ◌^◌, ◌≤◌, ◌<◌};
-ghost use Rattle.packed.specs.Packing.{number_or, whole_times, thousandths_of, milliseconds_of};
+ghost use Rattle.packed.specs.Packing.{whole_times, thousandths_of, milliseconds_of};
 
 use bits::masks::{high_bits, low_bits};
 use conversions::widen;
 use numbers::double::is_nan;
 
-// A packed number, or none.
-#[derive(Clone, Copy)]
-pub enum Packed {
-    Number(u64),
-    Refused,
-}
-
-// A packed number, or another where there is none.
-pub fn number_or(other: u64, packed: Packed) -> u64
-    ensures { result ≡ number_or other packed }
-{
-    match packed {
-        Packed::Number(n) => n,
-        Packed::Refused => other,
-    }
-}
-
 // How many whole 1 / n there are in x, rounded down, up to `limit`; none below 0.
-fn whole_times(x: f64, n: u64, limit: u64) -> Packed
+fn whole_times(x: f64, n: u64, limit: u64) -> Option<u64>
     requires { (1 ≤ n) × (n ≤ 1000) × (limit < 2 ^ 32) }
     ensures { result ≡ whole_times x n limit }
 {
     if is_nan(x) {
-        return Packed::Refused;
+        return None;
     }
     if x < 0.0 {
-        return Packed::Refused;
+        return None;
     }
     let bits = f64::to_bits(x);
     let field = low_bits(bits, 63) >> 52;
     let digits = low_bits(bits, 52);
     if field >= 1055 {
-        return Packed::Refused;
+        return None;
     }
     if field == 0 {
-        return Packed::Number(0);
+        return Some(0);
     }
     let whole = high_bits((0x10_0000_0000_0000 + digits) * n, 1075 - field);
-    if whole <= limit {
-        Packed::Number(whole)
-    } else {
-        Packed::Refused
-    }
+    if whole <= limit { Some(whole) } else { None }
 }
 
 // The thousandths of x, rounded down, from 0 to 1000.
-pub fn thousandths(x: f32) -> Packed
+pub fn thousandths(x: f32) -> Option<u64>
     ensures { result ≡ thousandths_of x }
 {
     whole_times(widen(x), 1000, 1000)
 }
 
 // The milliseconds of x seconds, rounded down, from 0 to `limit`.
-pub fn milliseconds(x: f64, limit: u64) -> Packed
+pub fn milliseconds(x: f64, limit: u64) -> Option<u64>
     requires { limit < 2 ^ 32 }
     ensures { result ≡ milliseconds_of x limit }
 {

@@ -6,7 +6,7 @@ ghost use Rattle.card_form.specs.Rows.{lent_card_rows};
 ghost use Rattle.packed_call.specs.PackedCards.{header_from, packed_call};
 ghost use Rattle.written.specs.Outcome.{bytes_outcome};
 
-use card::layout::{FoundLayout, Header};
+use card::layout::Header;
 use card_form::card_size;
 use packed_cards::judge::layout_of;
 use packed_cards::write::write_card;
@@ -36,8 +36,8 @@ pub fn write_packed_card(
     };
     let found = layout_of(h, starts, ends, keys, confidences);
     match found {
-        FoundLayout::Missing => refused(11),
-        FoundLayout::Found(l) => {
+        None => refused(11),
+        Some(l) => {
             if bytes.len() < card_size(l, ends.len()) {
                 return refused(12);
             }

@@ -1,8 +1,8 @@
 -- Packed rows as what is judged, and what is known of those that a card holds.
+use Rattle.std.specs.Prelude.{Some}
 use mathlib.Core.Path.{◌≡◌}
 use lib.ListN.{length}
 use Rattle.card.specs.declared.layout.Layout.{Layout}
-use Rattle.card.specs.declared.layout.FoundLayout.TheVariants.{Found}
 use Rattle.card.specs.declared.layout.Header.{Header}
 use Rattle.card_form.specs.Rows.{CardRows, row_at}
 use Rattle.card_form.proofs.Broken.{Asked, Held, held}
@@ -20,6 +20,6 @@ asked h rows =
       gap = first_packed_gap rows.starts rows.ends;
     }
 
-pub writable : (l : Layout) (h : Header) (rows : CardRows) → packed_layout h rows ≡ Found l → Held (asked h rows) l
+pub writable : (l : Layout) (h : Header) (rows : CardRows) → packed_layout h rows ≡ Some l → Held (asked h rows) l
 unfolding packed_layout
 writable l h rows w = held (asked h rows) w

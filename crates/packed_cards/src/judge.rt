@@ -5,7 +5,7 @@ ghost use Rattle.card_form.specs.Rows.{lent_card_rows, card_segments_in};
 ghost use Rattle.packed_cards.specs.Packed.{packed_meaning, first_packed_gap, packed_layout};
 
 use crate::rows::row_at;
-use card::layout::{FoundLayout, Header, Layout, layout_1, layout_2};
+use card::layout::{Header, Layout, layout_1, layout_2};
 use card::rules::{header_broken, segment_broken};
 use card_form::unequal_lengths;
 
@@ -69,23 +69,23 @@ pub fn layout_of(
     ends: &[u32],
     keys: &[u8],
     confidences: &[u16],
-) -> FoundLayout
+) -> Option<Layout>
     ensures { result ≡ packed_layout h (lent_card_rows starts.now ends.now keys.now confidences.now) }
 {
     let count = ends.len();
     let first = layout_1();
     let second = layout_2();
     if unequal_lengths(starts.len(), count, keys.len(), confidences.len()) {
-        return FoundLayout::Missing;
+        return None;
     }
     if first_gap(starts, ends) < count {
-        return FoundLayout::Missing;
+        return None;
     }
     if !is_broken(first, h, ends, keys, confidences) {
-        return FoundLayout::Found(first);
+        return Some(first);
     }
     if !is_broken(second, h, ends, keys, confidences) {
-        return FoundLayout::Found(second);
+        return Some(second);
     }
-    FoundLayout::Missing
+    None
 }

@@ -1,9 +1,6 @@
 -- A packed number as one number. Definitions only.
-use Rattle.std.specs.Prelude.{ℕ}
-use Rattle.packed.specs.declared.Packed.{Packed}
-use Rattle.packed.specs.declared.Packed.TheVariants.{Number, Refused}
+use Rattle.std.specs.Prelude.{ℕ, Option, unwrap_or}
 
 -- the number; the largest one of 64 bits for none
-abbrev pub number_of : Packed → ℕ
-number_of (Number n) = n
-number_of Refused = 0xffff_ffff_ffff_ffff
+abbrev pub number_of : Option ℕ → ℕ
+number_of packed = unwrap_or packed 0xffff_ffff_ffff_ffff

@@ -3,16 +3,13 @@ ghost use Rattle.std.specs.Prelude.{◌≡◌};
 ghost use Rattle.packed.specs.Packing.{thousandths_of, milliseconds_of};
 ghost use Rattle.probe.specs.Packed.{number_of};
 
-use packed::{Packed, milliseconds, thousandths};
+use packed::{milliseconds, thousandths};
 
 // A packed number; the largest number of 64 bits for none.
-fn number_of(packed: Packed) -> u64
+fn number_of(packed: Option<u64>) -> u64
     ensures { result ≡ number_of packed }
 {
-    let Packed::Number(n) = packed else {
-        return 0xffff_ffff_ffff_ffff;
-    };
-    n
+    packed.unwrap_or(u64::MAX)
 }
 
 #[unsafe(no_mangle)]

@@ -10,7 +10,7 @@ ghost use Rattle.read_call.specs.Reads.{unread, read_answer, read_outcome, read_
 ghost use Rattle.read_call.specs.inside.Readable.{CanRead, card_rows, SameSlices, HasRow, RowFits, with_row};
 
 use card::layout::{Header, Layout, Segment};
-use card_reader::judge::{CardJudged, judge_card};
+use card_reader::judge::judge_card;
 use card_reader::on_card::{count_on, header_on, segment_on};
 
 // What a card says of the whole track: the refusal's number, or 0; keys by number, 24 for a missing one; coverage and
@@ -122,10 +122,9 @@ pub fn read_card(
         keys,
         confidences,
     };
-    let judged = judge_card(bytes, rows.room());
-    match judged {
-        CardJudged::Refused(number) => unread_card(number),
-        CardJudged::Readable(l) => {
+    match judge_card(bytes, rows.room()) {
+        Err(error) => unread_card(error.number()),
+        Ok(l) => {
             let count = count_on(bytes, l);
             rows.read_segments(bytes, l, count);
             read_answer(header_on(bytes, l), count)

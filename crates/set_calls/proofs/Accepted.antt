@@ -1,4 +1,5 @@
 -- The table row by row: a card that is accepted, and the three ways out of a call.
+use Rattle.std.specs.Prelude.{Result, Ok, Err}
 use mathlib.Core.Path.{◌≡◌, refl, sym, ap, ap₂, subst, ◌∙◌}
 use mathlib.Core.Bool.{Bool, true, false, not}
 use mathlib.Core.List.{List}
@@ -14,28 +15,29 @@ use Rattle.laws.proofs.Table.{Reads, here, next, end, reads}
 use Rattle.bits.specs.Bits.{bits_of_bytes}
 use Rattle.card.specs.Layout.{most_segments}
 use Rattle.card.specs.declared.layout.Layout.{Layout}
-use Rattle.card_reader.specs.Reading.{judged_of, read_as}
-use Rattle.card_reader.specs.declared.judge.CardJudged.{CardJudged}
-use Rattle.card_reader.specs.declared.judge.CardJudged.TheVariants.{Refused, Readable}
+use Rattle.card_reader.specs.declared.judge.CardError.{CardError}
+use Rattle.card_reader.specs.Reading.{refusal_number, judged_of, read_as}
 use Rattle.laws.specs.Every.{same_numbers}
 use Rattle.set_places.specs.Places.{places, place_size, place_at, read_whole, is_read, lowest_with, found_place, placed}
 use Rattle.laws.proofs.Same.{same-is}
 use Rattle.set_places.proofs.Found.{found-some, found-none}
 use Rattle.set_totals.specs.Summary.{summary_of, numbers_of}
 use Rattle.set_calls.specs.Sets.{CardSet, SetOutcome, untrue, refusal_of, set_change, set_outcome, unchanged, changed, set_table, set_call}
-use Rattle.set_calls.specs.inside.Accepted.{accept_table, accepted_as}
+use Rattle.set_calls.specs.inside.Accepted.{set_refusal, judged_for_set, accept_table, accepted_as}
+use Rattle.set_calls.specs.declared.SetError.{SetError}
+use Rattle.set_calls.specs.declared.SetError.TheVariants.{UntrueSet, Unreadable, TooLong}
 use Rattle.set_calls.proofs.Truth.{TrueSet, true-set, of-true}
 
 -- ---- a card as it was judged
 module _ (card : List ℕ) where
-  pub refused-unread : {number : ℕ} → judged_of card most_segments ≡ Refused number → not (is_read (read_whole card)) ≡ true
-  refused-unread e = ap (λ (j : CardJudged). not (is_read (read_as (bits_of_bytes card) j))) e
+  pub refused-unread : {error : CardError} → judged_of card most_segments ≡ Err error → not (is_read (read_whole card)) ≡ true
+  refused-unread e = ap (λ (j : Result Layout CardError). not (is_read (read_as (bits_of_bytes card) j))) e
 
-  pub readable-read : {l : Layout} → judged_of card most_segments ≡ Readable l → not (is_read (read_whole card)) ≡ false
-  readable-read e = ap (λ (j : CardJudged). not (is_read (read_as (bits_of_bytes card) j))) e
+  pub readable-read : {l : Layout} → judged_of card most_segments ≡ Ok l → not (is_read (read_whole card)) ≡ false
+  readable-read e = ap (λ (j : Result Layout CardError). not (is_read (read_as (bits_of_bytes card) j))) e
 
-  refused-by : {number : ℕ} → judged_of card most_segments ≡ Refused number → refusal_of (read_whole card) ≡ number
-  refused-by e = ap (λ (j : CardJudged). refusal_of (read_as (bits_of_bytes card) j)) e
+  refused-by : {error : CardError} → judged_of card most_segments ≡ Err error → refusal_of (read_whole card) ≡ refusal_number error
+  refused-by e = ap (λ (j : Result Layout CardError). refusal_of (read_as (bits_of_bytes card) j)) e
 
 -- ---- the place that was looked for
 module _ (content set : List ℕ) where
@@ -69,43 +71,46 @@ module _ (content set : List ℕ) where
 
 -- ---- the rows before a place is looked for
 module _ (card : List ℕ) (s : CardSet) where
-  told-by : {j : CardJudged} → Reads (judged_of card most_segments) (accept_table card s) j → j ≡ accepted_as card s
+  told-by : {j : Result Layout SetError} → Reads (judged_for_set (judged_of card most_segments)) (accept_table card s) j → j ≡ accepted_as card s
   unfolding accepted_as
   told-by r = reads r
 
-  pub untrue-refused : untrue s ≡ true → Refused 33 ≡ accepted_as card s
+  pub untrue-refused : untrue s ≡ true → Err UntrueSet ≡ accepted_as card s
   untrue-refused u = told-by (here u)
 
   module _ (u : untrue s ≡ false) where
-    pub unread-refused : {number : ℕ} → judged_of card most_segments ≡ Refused number → Refused number ≡ accepted_as card s
-    unread-refused e = sym e ∙ told-by (next u (here (refused-unread card e)))
+    pub unread-refused : {error : CardError} → judged_of card most_segments ≡ Err error → Err (Unreadable error) ≡ accepted_as card s
+    unread-refused e = ap judged_for_set (sym e) ∙ told-by (next u (here (refused-unread card e)))
 
-    module _ {l : Layout} (e : judged_of card most_segments ≡ Readable l) where
-      pub long-refused : place_size < length card → Refused 30 ≡ accepted_as card s
+    module _ {l : Layout} (e : judged_of card most_segments ≡ Ok l) where
+      pub long-refused : place_size < length card → Err TooLong ≡ accepted_as card s
       long-refused h = told-by (next u (next (readable-read card e) (here (lt-ltb place_size (length card) h))))
 
-      pub accepted-is : length card ≤ place_size → Readable l ≡ accepted_as card s
-      accepted-is h = sym e ∙ told-by (next u (next (readable-read card e) (next (le-ltb place_size (length card) h) end)))
+      pub accepted-is : length card ≤ place_size → Ok l ≡ accepted_as card s
+      accepted-is h = ap judged_for_set (sym e) ∙ told-by (next u (next (readable-read card e) (next (le-ltb place_size (length card) h) end)))
 
   -- what is known of an accepted card and its set
   pub record Accepted (l : Layout) : Type 0 where
     pub set : TrueSet s
-    pub readable : judged_of card most_segments ≡ Readable l
+    pub readable : judged_of card most_segments ≡ Ok l
     pub fits : length card ≤ place_size
 
-  apart : {A : Type 0} {n : ℕ} {l : Layout} → ◌≡◌ {A = CardJudged} (Refused n) (Readable l) → A
+  apart : {A : Type 0} {error : SetError} {l : Layout} → ◌≡◌ {A = Result Layout SetError} (Err error) (Ok l) → A
   apart e = let z : ◌≡◌ {A = ℕ} 0 1 = cc in absurd (omega arith)
 
-  pub accepted : {l : Layout} → accepted_as card s ≡ Readable l → Accepted l
+  pub accepted : {l : Layout} → accepted_as card s ≡ Ok l → Accepted l
   accepted {l} e = by_truth (untrue s) refl
     where
-      by_length : untrue s ≡ false → {k : Layout} → judged_of card most_segments ≡ Readable k → (long : Bool) → ltb place_size (length card) ≡ long → Accepted l
+      by_length : untrue s ≡ false → {k : Layout} → judged_of card most_segments ≡ Ok k → (long : Bool) → ltb place_size (length card) ≡ long → Accepted l
       by_length u j true q = apart (long-refused u j (ltb-true place_size (length card) q) ∙ e)
-      by_length u j false q = record { set = true-set s u; readable = j ∙ accepted-is u j (ltb-false place_size (length card) q) ∙ e; fits = ltb-false place_size (length card) q }
+      by_length u {k} j false q =
+          let taken = accepted-is u j (ltb-false place_size (length card) q) ∙ e in
+          let same : k ≡ l = cc in
+          record { set = true-set s u; readable = j ∙ ap Ok same; fits = ltb-false place_size (length card) q }
 
-      by_reading : untrue s ≡ false → (j : CardJudged) → judged_of card most_segments ≡ j → Accepted l
-      by_reading u (Refused number) q = apart (unread-refused u q ∙ e)
-      by_reading u (Readable k) q = by_length u q (ltb place_size (length card)) refl
+      by_reading : untrue s ≡ false → (j : Result Layout CardError) → judged_of card most_segments ≡ j → Accepted l
+      by_reading u (Err error) q = apart (unread-refused u q ∙ e)
+      by_reading u (Ok k) q = by_length u q (ltb place_size (length card)) refl
 
       by_truth : (b : Bool) → untrue s ≡ b → Accepted l
       by_truth true u = apart (untrue-refused u ∙ e)
@@ -121,21 +126,21 @@ module _ (card : List ℕ) (s : CardSet) where
     called r = reads r
 
     -- refused before a place is looked for
-    pub call_refused : {number : ℕ} → accepted_as card s ≡ Refused number → unchanged number s ≡ set_call missing from to card s
-    call_refused {number} e = by_truth (untrue s) refl
+    pub call_refused : {error : SetError} → accepted_as card s ≡ Err error → unchanged (set_refusal error) s ≡ set_call missing from to card s
+    call_refused {error} e = by_truth (untrue s) refl
       where
-        same : {n : ℕ} → ◌≡◌ {A = CardJudged} (Refused n) (Refused number) → unchanged number s ≡ unchanged n s
-        same {n} q = let z : n ≡ number = cc in ap (λ (k : ℕ). unchanged k s) (sym z)
+        same : {other : SetError} → ◌≡◌ {A = Result Layout SetError} (Err other) (Err error) → unchanged (set_refusal error) s ≡ unchanged (set_refusal other) s
+        same {other} q = let z : other ≡ error = cc in ap (λ (k : SetError). unchanged (set_refusal k) s) (sym z)
 
-        by_length : untrue s ≡ false → {k : Layout} → judged_of card most_segments ≡ Readable k → (long : Bool) → ltb place_size (length card) ≡ long → unchanged number s ≡ set_call missing from to card s
+        by_length : untrue s ≡ false → {k : Layout} → judged_of card most_segments ≡ Ok k → (long : Bool) → ltb place_size (length card) ≡ long → unchanged (set_refusal error) s ≡ set_call missing from to card s
         by_length u j true q = same (long-refused u j (ltb-true place_size (length card) q) ∙ e) ∙ called (next u (next (readable-read card j) (here q)))
         by_length u j false q = apart (sym (accepted-is u j (ltb-false place_size (length card) q) ∙ e))
 
-        by_reading : untrue s ≡ false → (j : CardJudged) → judged_of card most_segments ≡ j → unchanged number s ≡ set_call missing from to card s
-        by_reading u (Refused n) q = same (unread-refused u q ∙ e) ∙ ap (λ (k : ℕ). unchanged k s) (sym (refused-by card q)) ∙ called (next u (here (refused-unread card q)))
-        by_reading u (Readable k) q = by_length u q (ltb place_size (length card)) refl
+        by_reading : untrue s ≡ false → (j : Result Layout CardError) → judged_of card most_segments ≡ j → unchanged (set_refusal error) s ≡ set_call missing from to card s
+        by_reading u (Err other) q = same (unread-refused u q ∙ e) ∙ ap (λ (k : ℕ). unchanged k s) (sym (refused-by card q)) ∙ called (next u (here (refused-unread card q)))
+        by_reading u (Ok k) q = by_length u q (ltb place_size (length card)) refl
 
-        by_truth : (b : Bool) → untrue s ≡ b → unchanged number s ≡ set_call missing from to card s
+        by_truth : (b : Bool) → untrue s ≡ b → unchanged (set_refusal error) s ≡ set_call missing from to card s
         by_truth true u = same (untrue-refused u ∙ e) ∙ called (here u)
         by_truth false u = by_reading u (judged_of card most_segments) refl
 

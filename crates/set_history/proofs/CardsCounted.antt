@@ -1,4 +1,5 @@
 -- A call that is done exchanges one content for another: of every card one copy more, one less, or as many.
+use Rattle.std.specs.Prelude.{Result, Ok, Err}
 use mathlib.Core.Path.{◌≡◌, refl, sym, ap, subst, ◌∙◌}
 use mathlib.Core.Bool.{Bool, true, false, ◌&&◌, cond}
 use mathlib.Core.List.{List, [], ◌∷◌}
@@ -10,9 +11,8 @@ use Rattle.laws.proofs.Cases.{same_test}
 use Rattle.bits.specs.Bits.{bits_of_bytes}
 use Rattle.card.specs.Layout.{most_segments}
 use Rattle.card.specs.declared.layout.Layout.{Layout}
+use Rattle.card_reader.specs.declared.judge.CardError.{CardError}
 use Rattle.card_reader.specs.Reading.{judged_of, read_as}
-use Rattle.card_reader.specs.declared.judge.CardJudged.{CardJudged}
-use Rattle.card_reader.specs.declared.judge.CardJudged.TheVariants.{Refused, Readable}
 use Rattle.laws.specs.Every.{same_numbers}
 use Rattle.set_places.specs.Places.{places, place_size, place_at, length_on, card_in, read_whole, is_read, in_place, placed}
 use Rattle.laws.proofs.Same.{same-is, same_of}
@@ -36,7 +36,7 @@ number b = cond b 1 0
 abbrev one : List ℕ → List ℕ → ℕ
 one card content = cond (same_numbers content (in_place card)) 1 0
 
-module _ (card : List ℕ) (l : Layout) (fits : length card ≤ place_size) (readable : judged_of card most_segments ≡ Readable l) where
+module _ (card : List ℕ) (l : Layout) (fits : length card ≤ place_size) (readable : judged_of card most_segments ≡ Ok l) where
   -- a free place does not hold it
   free_other : same_numbers (in_place []) (in_place card) ≡ false
   free_other = either (same_numbers (in_place []) (in_place card)) refl
@@ -51,7 +51,7 @@ module _ (card : List ℕ) (l : Layout) (fits : length card ≤ place_size) (rea
       either false e = refl
 
   -- a place with another card holds it exactly where the cards are the same
-  same-card : (other : List ℕ) (k : Layout) → length other ≤ place_size → judged_of other most_segments ≡ Readable k → same_numbers (in_place other) (in_place card) ≡ same_numbers other card
+  same-card : (other : List ℕ) (k : Layout) → length other ≤ place_size → judged_of other most_segments ≡ Ok k → same_numbers (in_place other) (in_place card) ≡ same_numbers other card
   same-card other k small reads =
       same_test (same_numbers (in_place other) (in_place card)) (same_numbers other card)
       (λ t. same_of other card (sym (card-in-place other k small reads) ∙ ap card_in (same-is (in_place other) (in_place card) t) ∙ card-in-place card l fits readable))
@@ -110,6 +110,6 @@ module _ (card : List ℕ) (l : Layout) (fits : length card ≤ place_size) (rea
 pub cards-counted : CardsCounted
 cards-counted card read fits cs s = by_reading (judged_of card most_segments) refl
   where
-    by_reading : (j : CardJudged) → judged_of card most_segments ≡ j → copies card (after_all cs s).bytes + done_of (takes card) cs s ≡ copies card s.bytes + done_of (puts card) cs s
-    by_reading (Refused number) e = differ (sym read ∙ ap (λ (j : CardJudged). is_read (read_as (bits_of_bytes card) j)) e)
-    by_reading (Readable l) e = all-counted card l fits e cs s
+    by_reading : (j : Result Layout CardError) → judged_of card most_segments ≡ j → copies card (after_all cs s).bytes + done_of (takes card) cs s ≡ copies card s.bytes + done_of (puts card) cs s
+    by_reading (Err error) e = differ (sym read ∙ ap (λ (j : Result Layout CardError). is_read (read_as (bits_of_bytes card) j)) e)
+    by_reading (Ok l) e = all-counted card l fits e cs s

@@ -1,4 +1,5 @@
 -- A card in its place is found there again: layout and count stand in its first bytes, so its length is the same.
+use Rattle.std.specs.Prelude.{Result, Ok}
 use mathlib.Core.Path.{◌≡◌, refl, sym, ap, ap₂, subst, ◌∙◌}
 use mathlib.Core.Bool.{Bool, true, false, not, ◌&&◌}
 use mathlib.Core.List.{List, [], ◌∷◌, ◌++◌}
@@ -13,9 +14,8 @@ use Rattle.bits.proofs.Fields.{total}
 use Rattle.card.specs.Layout.{most_segments, layouts, numbered_in, layout_or1}
 use Rattle.card.specs.declared.layout.Layout.{Layout}
 use Rattle.card_form.specs.Form.{header_widths, header_width, card_size, number_on, count_on}
+use Rattle.card_reader.specs.declared.judge.CardError.{CardError}
 use Rattle.card_reader.specs.Reading.{layout_on, judged_of, read_as}
-use Rattle.card_reader.specs.declared.judge.CardJudged.{CardJudged}
-use Rattle.card_reader.specs.declared.judge.CardJudged.TheVariants.{Readable}
 use Rattle.card_reader.proofs.Ready.{Ready, ready}
 use Rattle.set_places.specs.Places.{places, place_size, set_size, place_at, all_zero, length_on, card_in, read_whole, is_read, spoilt, in_place}
 use Rattle.set_places.proofs.Zeros.{in_place_lem, card-of, behind-of, none-in-place, are-zeros, drop-zeros, take-zeros, passed}
@@ -37,7 +37,7 @@ number-front : (bits rest : List ℕ) → 4 ≤ length bits → number_on (bits 
 number-front bits rest h = ap number_of (take-append-le 4 bits rest h)
 
 -- ---- a card that reads, with zeros behind it
-module _ (card : List ℕ) (l : Layout) (fits : length card ≤ place_size) (readable : judged_of card most_segments ≡ Readable l) where
+module _ (card : List ℕ) (l : Layout) (fits : length card ≤ place_size) (readable : judged_of card most_segments ≡ Ok l) where
   r : Ready card most_segments l
   r = ready card most_segments l readable
 
@@ -75,7 +75,7 @@ module _ (card : List ℕ) (l : Layout) (fits : length card ≤ place_size) (rea
   behind-zero = subst (λ (xs : List ℕ). T (all_zero xs)) (sym (ap (λ (n : ℕ). drop n (in_place card)) length-is ∙ behind-of card fits)) (are-zeros (place_size - length card))
 
   pub reads-in-place : is_read (read_whole (card_in (in_place card))) ≡ true
-  reads-in-place = ap (λ (bytes : List ℕ). is_read (read_whole bytes)) card-in-place ∙ ap (λ (j : CardJudged). is_read (read_as bits j)) readable
+  reads-in-place = ap (λ (bytes : List ℕ). is_read (read_whole bytes)) card-in-place ∙ ap (λ (j : Result Layout CardError). is_read (read_as bits j)) readable
 
   pub sound-in-place : spoilt (in_place card) ≡ false
   unfolding spoilt

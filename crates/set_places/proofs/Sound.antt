@@ -1,4 +1,5 @@
 -- What stands in a sound place is its card with zeros behind it, so it is that card put there.
+use Rattle.std.specs.Prelude.{Result, Ok, Err}
 use mathlib.Core.Path.{◌≡◌, refl, sym, ap, subst, ◌∙◌}
 use mathlib.Core.Bool.{Bool, true, false, not, ◌&&◌}
 use mathlib.Core.List.{List, [], ◌++◌}
@@ -10,24 +11,23 @@ use lib.ListN.{length, drop, replicate, length-take, length-drop, take-append-dr
 use Rattle.bits.specs.Bits.{bits_of_bytes}
 use Rattle.card.specs.Layout.{most_segments}
 use Rattle.card.specs.declared.layout.Layout.{Layout}
+use Rattle.card_reader.specs.declared.judge.CardError.{CardError}
 use Rattle.card_reader.specs.Reading.{judged_of, read_as}
-use Rattle.card_reader.specs.declared.judge.CardJudged.{CardJudged}
-use Rattle.card_reader.specs.declared.judge.CardJudged.TheVariants.{Refused, Readable}
 use Rattle.set_places.specs.Places.{place_size, all_zero, length_on, card_in, read_whole, is_read, spoilt, in_place}
 use Rattle.set_places.specs.Sound.{Holds, SoundPlaces}
 use Rattle.set_places.proofs.Zeros.{zeros-are, in_place_lem, none-in-place}
 use Rattle.set_places.proofs.InPlace.{card-in-place, sound-in-place, free-sound}
 
 -- a card that a place holds reads under some layout
-held-readable : (place card : List ℕ) → Holds place card → (l : Layout) × (judged_of card most_segments ≡ Readable l)
+held-readable : (place card : List ℕ) → Holds place card → (l : Layout) × (judged_of card most_segments ≡ Ok l)
 held-readable place card h = by_reading (judged_of card most_segments) refl
   where
-    by_reading : (j : CardJudged) → judged_of card most_segments ≡ j → (l : Layout) × (judged_of card most_segments ≡ Readable l)
-    by_reading (Refused number) e =
-        let unread : true ≡ false = sym h.reads ∙ ap (λ (j : CardJudged). is_read (read_as (bits_of_bytes card) j)) e in
+    by_reading : (j : Result Layout CardError) → judged_of card most_segments ≡ j → (l : Layout) × (judged_of card most_segments ≡ Ok l)
+    by_reading (Err error) e =
+        let unread : true ≡ false = sym h.reads ∙ ap (λ (j : Result Layout CardError). is_read (read_as (bits_of_bytes card) j)) e in
         let z : ◌≡◌ {A = ℕ} 0 1 = cc unread in
         absurd (omega arith)
-    by_reading (Readable l) e = (l, e)
+    by_reading (Ok l) e = (l, e)
 
 held-sound : (place card : List ℕ) → Holds place card → spoilt place ≡ false
 held-sound place card h = let r = held-readable place card h in ap spoilt h.there ∙ sound-in-place card r.0 h.fits r.1

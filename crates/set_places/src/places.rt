@@ -4,7 +4,7 @@ ghost use Rattle.laws.specs.Every.{same_numbers};
 ghost use Rattle.set_places.specs.Places.{places, place_size, set_size, in_place, length_on, lowest_with, found_place, placed};
 
 use crate::bytes::all_zero;
-use card::layout::{layout_numbered, layout_or_1};
+use card::layout::{layout_1, layout_numbered};
 use card_form::card_size;
 use card_reader::on_card::{count_on, number_on};
 
@@ -22,7 +22,7 @@ pub fn card_end(place: &[u8]) -> usize
     requires { 7 ≤ length place.now }
     ensures { result ≡ min (length_on place.now) (length place.now) }
 {
-    let l = layout_or_1(layout_numbered(number_on(place)));
+    let l = layout_numbered(number_on(place)).unwrap_or(layout_1());
     let count = count_on(place, l);
     card_size(l, count).min(place.len())
 }

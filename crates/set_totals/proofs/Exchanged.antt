@@ -1,4 +1,5 @@
 -- A place's content exchanged: each number grows by what the new content gives, and loses what the old one gave.
+use Rattle.std.specs.Prelude.{Result, Ok}
 use mathlib.Core.Path.{◌≡◌, sym, ap, subst, ◌∙◌}
 use mathlib.Core.List.{List, []}
 use Prim.Native.Nat.{ℕ, ◌+◌, ◌<◌, ◌≤◌}
@@ -9,9 +10,8 @@ use Rattle.bits.specs.Bits.{bits_of_bytes}
 use Rattle.card.specs.Layout.{Meaning, most_segments}
 use Rattle.card.specs.declared.layout.Layout.{Layout}
 use Rattle.card_form.specs.Form.{meaning_on}
+use Rattle.card_reader.specs.declared.judge.CardError.{CardError}
 use Rattle.card_reader.specs.Reading.{judged_of, read_as}
-use Rattle.card_reader.specs.declared.judge.CardJudged.{CardJudged}
-use Rattle.card_reader.specs.declared.judge.CardJudged.TheVariants.{Readable}
 use Rattle.set_places.specs.Places.{places, place_size, set_size, place_at, length_on, card_in, read_whole, is_read, in_place, placed}
 use Rattle.laws.proofs.Sums.{sum-changed, term-within}
 use Rattle.set_places.proofs.Zeros.{length-in-place, none-in-place}
@@ -26,10 +26,10 @@ use Rattle.set_totals.proofs.Tallied.{place_number, sum_over, numbers-are, talli
 pub free-gives : (k : ℕ) → read_number (read_whole (card_in (in_place []))) k ≡ 0
 free-gives k = unread-none (read_whole (card_in (in_place []))) k (ap (λ (bytes : List ℕ). is_read (read_whole (take (length_on (in_place [])) bytes))) none-in-place ∙ zeros-unread (length_on (in_place [])) place_size)
 
-pub card-gives : (card : List ℕ) (l : Layout) → length card ≤ place_size → judged_of card most_segments ≡ Readable l → (k : ℕ) → read_number (read_whole (card_in (in_place card))) k ≡ card_number (meaning_on l (bits_of_bytes card)) k
+pub card-gives : (card : List ℕ) (l : Layout) → length card ≤ place_size → judged_of card most_segments ≡ Ok l → (k : ℕ) → read_number (read_whole (card_in (in_place card))) k ≡ card_number (meaning_on l (bits_of_bytes card)) k
 card-gives card l fits readable k =
     ap (λ (bytes : List ℕ). read_number (read_whole bytes) k) (card-in-place card l fits readable)
-    ∙ ap (λ (j : CardJudged). read_number (read_as (bits_of_bytes card) j) k) readable
+    ∙ ap (λ (j : Result Layout CardError). read_number (read_as (bits_of_bytes card) j) k) readable
 
 -- ---- a set whose place i has one content, and then another
 module _ (set : List ℕ) (i : ℕ) (whole : length set ≡ set_size) (inside : i < places) where
@@ -39,7 +39,7 @@ module _ (set : List ℕ) (i : ℕ) (whole : length set ≡ set_size) (inside : 
       (λ j other. ap (λ (bytes : List ℕ). read_number (read_whole (card_in bytes)) k) (place_other set i whole inside content size j other))
       ∙ ap (λ (bytes : List ℕ). sum_over set places k + read_number (read_whole (card_in bytes)) k) (place_same set i whole inside content size)
 
-  module _ (card : List ℕ) (l : Layout) (fits : length card ≤ place_size) (readable : judged_of card most_segments ≡ Readable l) where
+  module _ (card : List ℕ) (l : Layout) (fits : length card ≤ place_size) (readable : judged_of card most_segments ≡ Ok l) where
     abbrev m : Meaning
     m = meaning_on l (bits_of_bytes card)
 

@@ -1,4 +1,5 @@
 -- A place by what was found in it: free, with bytes that do not read, or with a card.
+use Rattle.std.specs.Prelude.{Result, Ok, Err}
 use mathlib.Core.Path.{◌≡◌, refl, sym, ap, ap₂, subst, ◌∙◌}
 use mathlib.Core.Bool.{Bool, true, false, not, ◌&&◌}
 use mathlib.Core.List.{List}
@@ -13,9 +14,8 @@ use Rattle.bits.specs.Bits.{bits_of_bytes}
 use Rattle.card.specs.Layout.{most_segments}
 use Rattle.card.specs.declared.layout.Layout.{Layout}
 use Rattle.card_form.specs.Form.{meaning_on}
+use Rattle.card_reader.specs.declared.judge.CardError.{CardError}
 use Rattle.card_reader.specs.Reading.{judged_of, read_as}
-use Rattle.card_reader.specs.declared.judge.CardJudged.{CardJudged}
-use Rattle.card_reader.specs.declared.judge.CardJudged.TheVariants.{Refused, Readable}
 use Rattle.set_places.specs.Places.{all_zero, length_on, card_in, read_whole, is_read, spoilt}
 use Rattle.set_places.proofs.Zeros.{zeros-are}
 use Rattle.set_totals.specs.inside.Numbers.{summary_numbers, card_number, read_number, more}
@@ -62,15 +62,15 @@ module _ (place : List ℕ) where
 
   -- ---- not free, by how its front is judged
   module _ (z : all_zero place ≡ false) where
-    pub refused-is : {number : ℕ} → judged_of card most_segments ≡ Refused number → true ≡ spoilt place
-    refused-is e = tested z (ap (λ (j : CardJudged). is_read (read_as (bits_of_bytes card) j)) e)
+    pub refused-is : {error : CardError} → judged_of card most_segments ≡ Err error → true ≡ spoilt place
+    refused-is e = tested z (ap (λ (j : Result Layout CardError). is_read (read_as (bits_of_bytes card) j)) e)
 
-    pub refused-adds : {number : ℕ} → judged_of card most_segments ≡ Refused number → (numbers : List ℕ) → length numbers ≡ summary_numbers → numbers ≡ more (read_number (read_whole card)) numbers
+    pub refused-adds : {error : CardError} → judged_of card most_segments ≡ Err error → (numbers : List ℕ) → length numbers ≡ summary_numbers → numbers ≡ more (read_number (read_whole card)) numbers
     refused-adds e numbers size =
-        sym (more-none (read_number (read_whole card)) numbers size (λ k h. ap (λ (j : CardJudged). read_number (read_as (bits_of_bytes card) j) k) e))
+        sym (more-none (read_number (read_whole card)) numbers size (λ k h. ap (λ (j : Result Layout CardError). read_number (read_as (bits_of_bytes card) j) k) e))
 
-    pub read_is : {l : Layout} → judged_of card most_segments ≡ Readable l → not behind ≡ spoilt place
-    read_is e = tested z (ap (λ (j : CardJudged). is_read (read_as (bits_of_bytes card) j)) e)
+    pub read_is : {l : Layout} → judged_of card most_segments ≡ Ok l → not behind ≡ spoilt place
+    read_is e = tested z (ap (λ (j : Result Layout CardError). is_read (read_as (bits_of_bytes card) j)) e)
 
-    pub read-adds : {l : Layout} → judged_of card most_segments ≡ Readable l → (numbers : List ℕ) → more (card_number (meaning_on l (bits_of_bytes card))) numbers ≡ more (read_number (read_whole card)) numbers
-    read-adds {l} e numbers = more_same (card_number (meaning_on l (bits_of_bytes card))) (read_number (read_whole card)) numbers (λ k h. ap (λ (j : CardJudged). read_number (read_as (bits_of_bytes card) j) k) (sym e))
+    pub read-adds : {l : Layout} → judged_of card most_segments ≡ Ok l → (numbers : List ℕ) → more (card_number (meaning_on l (bits_of_bytes card))) numbers ≡ more (read_number (read_whole card)) numbers
+    read-adds {l} e numbers = more_same (card_number (meaning_on l (bits_of_bytes card))) (read_number (read_whole card)) numbers (λ k h. ap (λ (j : Result Layout CardError). read_number (read_as (bits_of_bytes card) j) k) (sym e))

@@ -1,4 +1,5 @@
 -- What is read of bytes, in a summary's numbers: nothing of zeros, and of a card no more than a day.
+use Rattle.std.specs.Prelude.{Option, Some, None, Result, Ok, Err}
 use mathlib.Core.Path.{◌≡◌, refl, sym, ◌∙◌}
 use mathlib.Core.Bool.{Bool, true, false, cond}
 use mathlib.Core.List.{List}
@@ -9,12 +10,9 @@ use lib.ListN.{take, replicate}
 use Rattle.bits.specs.Bits.{bits_of, bits_of_bytes, number_of}
 use Rattle.card.specs.Layout.{Meaning, last_end, most_segments}
 use Rattle.card.specs.declared.layout.Layout.{Layout}
-use Rattle.card.specs.declared.layout.FoundLayout.{FoundLayout}
-use Rattle.card.specs.declared.layout.FoundLayout.TheVariants.{Found, Missing}
 use Rattle.card_form.specs.Form.{meaning_on}
+use Rattle.card_reader.specs.declared.judge.CardError.{CardError}
 use Rattle.card_reader.specs.Reading.{Reading, refused, says, layout_on, judged_of, read_as}
-use Rattle.card_reader.specs.declared.judge.CardJudged.{CardJudged}
-use Rattle.card_reader.specs.declared.judge.CardJudged.TheVariants.{Refused, Readable}
 use Rattle.card_reader.proofs.Ready.{ready}
 use Rattle.set_places.specs.Places.{read_whole, is_read}
 use Rattle.set_totals.specs.Summary.{key_time}
@@ -23,13 +21,13 @@ use Rattle.set_totals.proofs.Times.{key-time-limited}
 
 -- ---- zeros
 -- they name no layout
-zeros-name-none : (n m : ℕ) → layout_on (bits_of_bytes (take n (replicate m 0))) ≡ Missing
+zeros-name-none : (n m : ℕ) → layout_on (bits_of_bytes (take n (replicate m 0))) ≡ None
 unfolding bits_of_bytes bits_of number_of
 zeros-name-none zero m = refl
 zeros-name-none (suc n) zero = refl
 zeros-name-none (suc n) (suc m) = refl
 
-apart : {A : Type 0} {l : Layout} → ◌≡◌ {A = FoundLayout} Missing (Found l) → A
+apart : {A : Type 0} {l : Layout} → ◌≡◌ {A = Option Layout} None (Some l) → A
 apart e = let z : ◌≡◌ {A = ℕ} 0 1 = cc in absurd (omega arith)
 
 -- a front of zeros does not read
@@ -39,9 +37,9 @@ zeros-unread n m = either (judged_of bytes most_segments) refl
     bytes : List ℕ
     bytes = take n (replicate m 0)
 
-    either : (j : CardJudged) → judged_of bytes most_segments ≡ j → is_read (read_as (bits_of_bytes bytes) j) ≡ false
-    either (Refused number) e = refl
-    either (Readable l) e = apart (sym (zeros-name-none n m) ∙ (ready bytes most_segments l e).known)
+    either : (j : Result Layout CardError) → judged_of bytes most_segments ≡ j → is_read (read_as (bits_of_bytes bytes) j) ≡ false
+    either (Err error) e = refl
+    either (Ok l) e = apart (sym (zeros-name-none n m) ∙ (ready bytes most_segments l e).known)
 
 -- what does not read adds nothing
 pub unread-none : (r : Reading) (k : ℕ) → is_read r ≡ false → read_number r k ≡ 0
@@ -63,9 +61,9 @@ number-limited m limit k one times = either (eqb k 24) (eqb k 25) (eqb m.header.
 pub reading-limited : (card : List ℕ) (k : ℕ) → read_number (read_whole card) k ≤ last_end
 reading-limited card k = either (judged_of card most_segments) refl
   where
-    either : (j : CardJudged) → judged_of card most_segments ≡ j → read_number (read_as (bits_of_bytes card) j) k ≤ last_end
-    either (Refused number) e = omega arith
-    either (Readable l) e =
+    either : (j : Result Layout CardError) → judged_of card most_segments ≡ j → read_number (read_as (bits_of_bytes card) j) k ≤ last_end
+    either (Err error) e = omega arith
+    either (Ok l) e =
         let r = ready card most_segments l e in
         let m = meaning_on l (bits_of_bytes card) in
         number-limited m last_end k (omega arith) (λ key. omega (arith, key-time-limited l m r.good key, r.sound.early))

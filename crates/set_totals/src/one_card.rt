@@ -1,10 +1,9 @@
 // What one card adds to a summary's numbers, or takes from them.
-ghost use Rattle.std.specs.Prelude.{◌≡◌, ◌+◌, ◌^◌, ◌<◌, length, get_or};
+ghost use Rattle.std.specs.Prelude.{◌≡◌, ◌+◌, ◌^◌, ◌<◌, length, get_or, Ok};
 ghost use Rattle.bits.specs.Bits.{bits_of_bytes};
 ghost use Rattle.card.specs.Layout.{most_segments};
 ghost use Rattle.card_form.specs.Form.{count_on, meaning_on};
 ghost use Rattle.card_reader.specs.Reading.{judged_of};
-ghost use Rattle.card_reader.specs.declared.judge.CardJudged.TheVariants.{Readable};
 ghost use Rattle.set_totals.specs.Summary.{key_time, keyless_of};
 ghost use Rattle.set_totals.specs.inside.Numbers.{summary_numbers, card_number, raised, more, less, CanAdd, CanTake};
 
@@ -30,7 +29,7 @@ fn raise(numbers: &mut [u64], k: usize, by: u64)
 
 // Adds each segment's milliseconds to the total of its key.
 fn add_times(card: &[u8], l: Layout, count: usize, numbers: &mut [u64])
-    requires { (judged_of card.now most_segments ≡ Readable l) × (count ≡ count_on l (bits_of_bytes card.now)) × CanAdd numbers.old }
+    requires { (judged_of card.now most_segments ≡ Ok l) × (count ≡ count_on l (bits_of_bytes card.now)) × CanAdd numbers.old }
     ensures { numbers.new ≡ more (key_time (meaning_on l (bits_of_bytes card.now))) numbers.old }
 {
     let mut previous = 0;
@@ -50,7 +49,7 @@ fn keyless(h: Header) -> u64
 
 // Adds a card's numbers.
 pub fn add_numbers(card: &[u8], l: Layout, numbers: &mut [u64])
-    requires { (judged_of card.now most_segments ≡ Readable l) × CanAdd numbers.old }
+    requires { (judged_of card.now most_segments ≡ Ok l) × CanAdd numbers.old }
     ensures { numbers.new ≡ more (card_number (meaning_on l (bits_of_bytes card.now))) numbers.old }
 {
     let count = count_on(card, l);
@@ -72,7 +71,7 @@ fn subtract(numbers: &mut [u64], others: &[u64])
 
 // Takes a card's numbers away.
 pub fn take_numbers(card: &[u8], l: Layout, numbers: &mut [u64])
-    requires { (judged_of card.now most_segments ≡ Readable l) × CanTake (card_number (meaning_on l (bits_of_bytes card.now))) numbers.old }
+    requires { (judged_of card.now most_segments ≡ Ok l) × CanTake (card_number (meaning_on l (bits_of_bytes card.now))) numbers.old }
     ensures { numbers.new ≡ less (card_number (meaning_on l (bits_of_bytes card.now))) numbers.old }
 {
     let mut own = [0; SUMMARY_NUMBERS];

@@ -6,7 +6,7 @@ ghost use Rattle.set_totals.specs.inside.Numbers.{summary_numbers, more, read_nu
 
 use crate::one_card::add_numbers;
 use card::layout::MOST_SEGMENTS;
-use card_reader::judge::{CardJudged, judge_card};
+use card_reader::judge::judge_card;
 use set_places::bytes::all_zero;
 use set_places::places::{PLACE_SIZE, PLACES, card_end};
 
@@ -19,10 +19,9 @@ fn tally_place(place: &[u8], numbers: &mut [u64]) -> bool
         return false;
     }
     let end = card_end(place);
-    let judged = judge_card(&place[..end], MOST_SEGMENTS);
-    match judged {
-        CardJudged::Refused(number) => true,
-        CardJudged::Readable(l) => {
+    match judge_card(&place[..end], MOST_SEGMENTS) {
+        Err(_) => true,
+        Ok(l) => {
             add_numbers(&place[..end], l, numbers);
             !all_zero(&place[end..])
         }

@@ -7,20 +7,20 @@ use Rattle.card_call.proofs.write_analysed_card.Goals as goal
 
 pub card_size-requires : goal.card_size-requires
 unfolding layout_of
-card_size-requires c = can-measure ((let a = c.args in asked (analysis (overall a.key a.dsp a.alternate a.coverage a.confidence) a.starts.now a.ends.now a.keys.now a.confidences.now))) (c.args.bytes.now) c.layout_of-found.ensures c.in-Found.is
+card_size-requires c = can-measure ((let a = c.args in asked (analysis (overall a.key a.dsp a.alternate a.coverage a.confidence) a.starts.now a.ends.now a.keys.now a.confidences.now))) (c.args.bytes.now) c.layout_of-found.ensures c.in-Some.is
 
 pub returns-then-bytes-card_size : goal.returns-then-bytes-card_size
 unfolding layout_of
-returns-then-bytes-card_size c = too_few ((let a = c.args in asked (analysis (overall a.key a.dsp a.alternate a.coverage a.confidence) a.starts.now a.ends.now a.keys.now a.confidences.now))) (c.args.bytes.now) c.layout_of-found.ensures c.in-Found.is c.card_size.ensures c.if-bytes-card_size.true c.refused-then-bytes-card_size.ensures
+returns-then-bytes-card_size c = too_few ((let a = c.args in asked (analysis (overall a.key a.dsp a.alternate a.coverage a.confidence) a.starts.now a.ends.now a.keys.now a.confidences.now))) (c.args.bytes.now) c.layout_of-found.ensures c.in-Some.is c.card_size.ensures c.if-bytes-card_size.true c.refused-then-bytes-card_size.ensures
 
 pub write_card-requires : goal.write_card-requires
 unfolding layout_of
-write_card-requires c = can_write ((let a = c.args in asked (analysis (overall a.key a.dsp a.alternate a.coverage a.confidence) a.starts.now a.ends.now a.keys.now a.confidences.now))) (c.args.bytes.now) c.layout_of-found.ensures c.in-Found.is c.card_size.ensures c.if-bytes-card_size.false
+write_card-requires c = can_write ((let a = c.args in asked (analysis (overall a.key a.dsp a.alternate a.coverage a.confidence) a.starts.now a.ends.now a.keys.now a.confidences.now))) (c.args.bytes.now) c.layout_of-found.ensures c.in-Some.is c.card_size.ensures c.if-bytes-card_size.false
 
-pub returns-in-Missing : goal.returns-in-Missing
+pub returns-in-None : goal.returns-in-None
 unfolding layout_of
-returns-in-Missing c = none-holds ((let a = c.args in asked (analysis (overall a.key a.dsp a.alternate a.coverage a.confidence) a.starts.now a.ends.now a.keys.now a.confidences.now))) (c.args.bytes.now) c.layout_of-found.ensures c.in-Missing.is c.refused.ensures
+returns-in-None c = none-holds ((let a = c.args in asked (analysis (overall a.key a.dsp a.alternate a.coverage a.confidence) a.starts.now a.ends.now a.keys.now a.confidences.now))) (c.args.bytes.now) c.layout_of-found.ensures c.in-None.is c.refused.ensures
 
 pub returns-else-bytes-card_size : goal.returns-else-bytes-card_size
 unfolding layout_of
-returns-else-bytes-card_size c = card-written ((let a = c.args in asked (analysis (overall a.key a.dsp a.alternate a.coverage a.confidence) a.starts.now a.ends.now a.keys.now a.confidences.now))) (c.args.bytes.now) c.layout_of-found.ensures c.in-Found.is c.card_size.ensures c.if-bytes-card_size.false c.write_card.ensures.0 c.write_card.ensures.1
+returns-else-bytes-card_size c = card-written ((let a = c.args in asked (analysis (overall a.key a.dsp a.alternate a.coverage a.confidence) a.starts.now a.ends.now a.keys.now a.confidences.now))) (c.args.bytes.now) c.layout_of-found.ensures c.in-Some.is c.card_size.ensures c.if-bytes-card_size.false c.write_card.ensures.0 c.write_card.ensures.1

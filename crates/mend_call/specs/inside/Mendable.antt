@@ -1,8 +1,7 @@
 -- What is known on the way through the table. No promise names it. Definitions only.
-use Rattle.std.specs.Prelude.{◌≡◌, false, not, ◌&&◌, List, ℕ, ◌≤◌, eqb, length}
+use Rattle.std.specs.Prelude.{◌≡◌, false, not, ◌&&◌, List, ℕ, ◌≤◌, eqb, length, Some}
 use Rattle.bits.specs.Bits.{bits_of_bytes}
 use Rattle.card.specs.declared.layout.Layout.{Layout}
-use Rattle.card.specs.declared.layout.FoundLayout.TheVariants.{Found}
 use Rattle.card.specs.declared.layout.Header.{Header}
 use Rattle.card_form.specs.Form.{header_on, count_on}
 use Rattle.card_reader.specs.Reading.{layout_on}
@@ -11,7 +10,7 @@ use Rattle.card_mender.specs.Mending.{has_no_key, key_broken, kept_on}
 -- behind 41: the bytes have a header, and name a layout
 pub record Headed (bytes : List ℕ) (l : Layout) : Type 0 where
   pub long : 7 ≤ length bytes
-  pub known : layout_on (bits_of_bytes bytes) ≡ Found l
+  pub known : layout_on (bits_of_bytes bytes) ≡ Some l
 
 -- behind 43: something is kept, or there is no key; and what was read and worked out
 pub record Mendable (bytes : List ℕ) (l : Layout) (h : Header) (claimed kept : ℕ) : Type 0 where

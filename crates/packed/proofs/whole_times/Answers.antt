@@ -1,4 +1,5 @@
 -- The sign, then the exponent's field of the pattern say which case the value is.
+use Rattle.std.specs.Prelude.{Some, None}
 use mathlib.Core.Path.{◌≡◌, sym, ap, ◌∙◌, subst}
 use mathlib.Core.Bool.{Bool, false, cond}
 use Prim.Native.Nat.{ℕ, ◌+◌, ◌-◌, ◌*◌, ◌/◌, ◌^◌, ◌≤◌}
@@ -8,7 +9,6 @@ use lib.Dec.{T, lit<}
 use lib.Ieee.{binary64, fits, lt, of_bits}
 use borrow.Author.Tests.{le-leb, lt-leb}
 use Rattle.packed.specs.Packing.{limited, whole_times}
-use Rattle.packed.specs.declared.Packed.TheVariants.{Number, Refused}
 use Rattle.laws.specs.Values.{plus_zero}
 use Rattle.laws.proofs.Table.{told}
 use Rattle.laws.proofs.Signs.{not-nan}
@@ -60,7 +60,7 @@ returns-then-whole-limit c =
     ∙ ap (limited c.args.limit)
     (ap (λ (z : ℕ). (2 ^ 52 + z) * c.args.n / 2 ^ (1075 - field)) (digits_are)
     ∙ ap (λ (z : ℕ). (2 ^ 52 + d) * c.args.n / 2 ^ (1075 - z)) (field_is) ∙ sym c.high_bits-whole.ensures) in
-    sym (found ∙ ap (λ (b : Bool). cond b (Number c.high_bits-whole.result) Refused) (le-leb _ _ c.if-whole-limit.true))
+    sym (found ∙ ap (λ (b : Bool). cond b (Some c.high_bits-whole.result) None) (le-leb _ _ c.if-whole-limit.true))
 
 pub returns-else-whole-limit : goal.returns-else-whole-limit
 unfolding of_bits
@@ -75,4 +75,4 @@ returns-else-whole-limit c =
     ∙ ap (limited c.args.limit)
     (ap (λ (z : ℕ). (2 ^ 52 + z) * c.args.n / 2 ^ (1075 - field)) (digits_are)
     ∙ ap (λ (z : ℕ). (2 ^ 52 + d) * c.args.n / 2 ^ (1075 - z)) (field_is) ∙ sym c.high_bits-whole.ensures) in
-    sym (found ∙ ap (λ (b : Bool). cond b (Number c.high_bits-whole.result) Refused) (lt-leb _ _ c.if-whole-limit.false))
+    sym (found ∙ ap (λ (b : Bool). cond b (Some c.high_bits-whole.result) None) (lt-leb _ _ c.if-whole-limit.false))
