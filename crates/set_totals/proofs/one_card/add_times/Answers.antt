@@ -13,7 +13,7 @@ use Rattle.card.specs.declared.layout.Segment.{Segment}
 use Rattle.card_form.specs.Form.{segment_width, count_on, segment_on, meaning_on}
 use Rattle.card_form.proofs.Lengths.{one-more-fits}
 use Rattle.card_reader.specs.Reading.{judged_of}
-use Rattle.card_reader.specs.declared.judge.CardJudged.TheVariants.{Readable}
+use Rattle.std.specs.Prelude.{Ok}
 use Rattle.card_reader.proofs.Ready.{Ready, ready, all_there}
 use Rattle.set_totals.proofs.Numbers.{more-long}
 use Rattle.set_totals.proofs.Adding.{Added, added-start, added_more, added-end, key-inside, long, no-later, stays-small}
@@ -28,7 +28,7 @@ record Turn (card : List ℕ) (l : Layout) (i : ℕ) (s : Segment) : Type 0 wher
   pub less : i < length (meaning_on l (bits_of_bytes card)).segments
   pub here : s ≡ card_segment (meaning_on l (bits_of_bytes card)).segments i
 
-turn : (card : List ℕ) (l : Layout) (count i : ℕ) (s : Segment) → judged_of card most_segments ≡ Readable l → count ≡ count_on l (bits_of_bytes card) → i < count → s ≡ segment_on l (bits_of_bytes card) i → Turn card l i s
+turn : (card : List ℕ) (l : Layout) (count i : ℕ) (s : Segment) → judged_of card most_segments ≡ Ok l → count ≡ count_on l (bits_of_bytes card) → i < count → s ≡ segment_on l (bits_of_bytes card) i → Turn card l i s
 turn card l count i s judged counted less e =
     let at = segment_on l (bits_of_bytes card) in
     let all : i < count_on l (bits_of_bytes card) = omega (arith, counted) in
