@@ -1,3 +1,4 @@
 -- What the functions' proofs share, on plain values.
 mod Classes
+pub mod Fronts
 mod Shifts

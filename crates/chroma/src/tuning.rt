@@ -1,6 +1,6 @@
 // How far a track is tuned off the pitch classes.
-ghost use Rattle.std.specs.Prelude.{◌≡◌, ◌<◌, ◌≤◌, length};
-ghost use Rattle.chroma.specs.Tuning.{peak_added, bin_added, frame_added, frames_added, mean_offset, tuning_of};
+ghost use Rattle.std.specs.Prelude.{◌≡◌, length};
+ghost use Rattle.chroma.specs.Tuning.{peak_added, frame_added, mean_offset, tuning_of};
 
 use numbers::single::clamp;
 
@@ -35,12 +35,10 @@ fn add_frame(peaks: Peaks, values: &[f32; 12]) -> Peaks
     ensures { result ≡ frame_added values.now peaks }
 {
     let mut sums = peaks;
-    let mut bin = 0;
-    while bin < 12 {
+    for bin in 0..12 {
         let last = (bin + 11) % 12;
         let next = (bin + 1) % 12;
         sums = add_bin(sums, values[last], values[bin], values[next]);
-        bin += 1;
     }
     sums
 }
@@ -49,29 +47,23 @@ fn add_frame(peaks: Peaks, values: &[f32; 12]) -> Peaks
 fn mean_offset(peaks: Peaks) -> f32
     ensures { result ≡ mean_offset peaks }
 {
-    let heights = peaks.heights;
-    let offsets = peaks.offsets;
-    if heights > 0.00000011920929 {
-        clamp(offsets / heights, -0.5, 0.5)
+    if peaks.heights > 0.00000011920929 {
+        clamp(peaks.offsets / peaks.heights, -0.5, 0.5)
     } else {
         0.0
     }
 }
 
-// The Rust's `estimate_tuning` over the first `count` frames.
-pub fn estimate_tuning(frames: &[[f32; 12]], count: usize) -> f32
-    requires { count ≤ length frames.now }
-    ensures { result ≡ tuning_of frames.now count }
+// The Rust's `estimate_tuning`.
+pub fn estimate_tuning(frames: &[[f32; 12]]) -> f32
+    ensures { result ≡ tuning_of frames.now (length frames.now) }
 {
     let mut peaks = Peaks {
         heights: 0.0,
         offsets: 0.0,
     };
-    let mut j = 0;
-    while j < count {
-        let values = frames[j];
-        peaks = add_frame(peaks, &values);
-        j += 1;
+    for values in frames {
+        peaks = add_frame(peaks, values);
     }
     mean_offset(peaks)
 }

@@ -16,26 +16,14 @@ fn whiten_value(x: f32) -> f32
 pub fn whiten_chroma(chroma: &[f32; 12]) -> [f32; 12]
     ensures { result ≡ whitened_of chroma.now }
 {
-    let mut values = [0.0; 12];
-    let mut i = 0;
-    while i < 12 {
-        values[i] = whiten_value(chroma[i]);
-        i += 1;
-    }
-    values
+    chroma.map(whiten_value)
 }
 
 // Each value over the total.
 fn divide_by(chroma: &[f32; 12], total: f32) -> [f32; 12]
     ensures { result ≡ divided_by chroma.now total }
 {
-    let mut values = [0.0; 12];
-    let mut i = 0;
-    while i < 12 {
-        values[i] = chroma[i] / total;
-        i += 1;
-    }
-    values
+    chroma.map(|value| value / total)
 }
 
 // The Rust's `normalize_chroma`: over the sum, where that is above 2^-23.

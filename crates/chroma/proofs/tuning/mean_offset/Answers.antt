@@ -3,10 +3,10 @@ use lib.Ieee.{of_bits, neg}
 use Rattle.chroma.specs.Tuning.{mean_offset}
 use Rattle.chroma.proofs.tuning.mean_offset.Goals as goal
 
-pub returns-then-heights : goal.returns-then-heights
+pub returns-then-peaks : goal.returns-then-peaks
 unfolding mean_offset of_bits neg
-returns-then-heights c = rw c.if-heights.true c.clamp.ensures
+returns-then-peaks c = rw c.if-peaks.true c.clamp.ensures
 
-pub returns-else-heights : goal.returns-else-heights
+pub returns-else-peaks : goal.returns-else-peaks
 unfolding mean_offset of_bits
-returns-else-heights c = rw c.if-heights.false
+returns-else-peaks c = rw c.if-peaks.false

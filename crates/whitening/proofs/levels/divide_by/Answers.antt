@@ -1,16 +1,10 @@
--- The array is written from the front, a quotient a turn.
-use mathlib.Core.Path.{refl}
-use native.Mathlib.Omega.{arith}
-use Rattle.laws.proofs.Front.{filled-start, filled_more, filled-whole}
+-- Each value over the total.
+use Rattle.std.proofs.Common.{rules}
+use lib.Ieee.{Float, nan, binary32, div}
 use Rattle.whitening.specs.Levels.{divided_by}
+use Rattle.whitening.proofs.Mapped.{list-map}
 use Rattle.whitening.proofs.levels.divide_by.Goals as goal
-
-pub loop-i-init : goal.loop-i-init
-loop-i-init c = (omega arith, filled-start _ _)
-
-pub loop-i-preserved : goal.loop-i-preserved
-loop-i-preserved c = let turn = c.loop-i in (omega arith, filled_more _ _ _ turn.i turn.invariant.1 (omega arith))
 
 pub returns : goal.returns
 unfolding divided_by
-returns c = filled-whole _ _ _ c.loop-i.i 12 c.loop-i.invariant.1 (omega arith) refl
+returns c = list-map _ (λ (x : Float). div binary32 x c.args.total) _ (λ x y q r. search rules) _ _ nan 12 c.map.ensures.items
