@@ -60,6 +60,6 @@ pub extern "C" fn probe_tuning(frames: &[[f32; 12]], count: usize) -> f32
     if count > frames.len() {
         0.0
     } else {
-        tuning::estimate_tuning(frames, count)
+        tuning::estimate_tuning(&frames[..count])
     }
 }

@@ -30,7 +30,7 @@ fn tune_medians(medians: &[f32; 12], values: &[[f32; 12]], count: usize) -> [f32
     requires { count ≤ length values.now }
     ensures { result ≡ tuned_of medians.now values.now count }
 {
-    let offset = estimate_tuning(values, count);
+    let offset = estimate_tuning(&values[..count]);
     let tuned = retune_chroma(medians, offset);
     normalize_chroma(&tuned)
 }
