@@ -5,7 +5,7 @@ use mathlib.Core.Bool.{Bool, true, false, not}
 use mathlib.Core.List.{List}
 use mathlib.Core.Logic.{inl, inr}
 use Prim.Native.Nat.{ℕ, ◌<◌, ◌≤◌}
-use Rattle.std.proofs.Common.{Option, None, Some}
+use Rattle.std.proofs.Common.{Option, None, Some, IsErrAnd, ok_or}
 use native.Mathlib.Omega.{arith}
 use lib.Dec.{T, ltb}
 use lib.ListN.{length, drop}
@@ -23,7 +23,7 @@ use Rattle.laws.proofs.Same.{same-is}
 use Rattle.set_places.proofs.Found.{found-some, found-none}
 use Rattle.set_totals.specs.Summary.{summary_of, numbers_of}
 use Rattle.set_calls.specs.Sets.{CardSet, SetOutcome, untrue, refusal_of, set_change, set_outcome, unchanged, changed, set_table, set_call}
-use Rattle.set_calls.specs.inside.Accepted.{set_refusal, judged_for_set, accept_table, accepted_as}
+use Rattle.set_calls.specs.inside.Accepted.{set_refusal, judged_for_set, accept_table, accepted_as, with_place, place_for}
 use Rattle.set_calls.specs.declared.SetError.{SetError}
 use Rattle.set_calls.specs.declared.SetError.TheVariants.{UntrueSet, Unreadable, TooLong}
 use Rattle.set_calls.proofs.Truth.{TrueSet, true-set, of-true}
@@ -156,6 +156,66 @@ module _ (card : List ℕ) (s : CardSet) where
       -- one has it
       pub call_changed : {p : ℕ} → Found from s.bytes p → changed place to s ≡ set_call missing from to card s
       call_changed f = past (next (ne_eqb place places (λ (e : place ≡ places). omega (arith, e, f.here, f.inside))) end)
+
+-- an error that a call hands on
+pub handed-on : {A E : Type 0} {error : E} (r : Result A E) → IsErrAnd r (λ (e : E). e ≡ error) → r ≡ Err error
+handed-on (Err e) p = ap Err p
+handed-on (Ok x) p = absurd p
+
+-- what `ok_or` makes of an option
+pub none-of : {E : Type 0} {error other : E} (place : Option ℕ) {r : Result ℕ E} → r ≡ ok_or place error → r ≡ Err other → (place ≡ None) × (other ≡ error)
+none-of None is e = (refl, cc)
+none-of (Some p) is e = absurd (let z : ◌≡◌ {A = ℕ} 0 1 = cc (is, e) in omega arith)
+
+pub some-of : {E : Type 0} (error : E) (place : Option ℕ) {p : ℕ} {r : Result ℕ E} → r ≡ ok_or place error → r ≡ Ok p → place ≡ Some p
+some-of error None is e = absurd (let z : ◌≡◌ {A = ℕ} 0 1 = cc (is, e) in omega arith)
+some-of error (Some i) {p} is e = let z : i ≡ p = cc in ap Some z
+
+-- ---- a card with the place that was looked for
+module _ (missing : SetError) (from card : List ℕ) (s : CardSet) where
+  abbrev looked_for : Option ℕ
+  looked_for = found_place (lowest_with from s.bytes)
+
+  pub for-refused : {error : SetError} → accepted_as card s ≡ Err error → ◌≡◌ {A = Result (Layout × ℕ) SetError} (Err error) (place_for missing from card s)
+  unfolding place_for
+  for-refused a = sym (ap (with_place missing looked_for) a)
+
+  pub for-missing : {l : Layout} → accepted_as card s ≡ Ok l → looked_for ≡ None → ◌≡◌ {A = Result (Layout × ℕ) SetError} (Err missing) (place_for missing from card s)
+  unfolding place_for
+  for-missing a q = sym (ap₂ (with_place missing) q a)
+
+  pub for-found : {l : Layout} {p : ℕ} → accepted_as card s ≡ Ok l → looked_for ≡ Some p → ◌≡◌ {A = Result (Layout × ℕ) SetError} (Ok (l, p)) (place_for missing from card s)
+  unfolding place_for
+  for-found a q = sym (ap₂ (with_place missing) q a)
+
+  -- what is known of both
+  pub record Placed (l : Layout) (p : ℕ) : Type 0 where
+    pub taken : Accepted card s l
+    pub place : Found from s.bytes p
+
+  pub placed-for : {l : Layout} {p : ℕ} → place_for missing from card s ≡ Ok (l, p) → Placed l p
+  unfolding place_for
+  placed-for {l} {p} e = by_both (found_place (lowest_with from s.bytes)) (accepted_as card s) refl refl e
+    where
+      by_both : (r : Option ℕ) (j : Result Layout SetError) → found_place (lowest_with from s.bytes) ≡ r → accepted_as card s ≡ j → with_place missing r j ≡ Ok (l, p) → Placed l p
+      by_both r (Err error) q a e = absurd (let z : ◌≡◌ {A = ℕ} 0 1 = cc e in omega arith)
+      by_both None (Ok k) q a e = absurd (let z : ◌≡◌ {A = ℕ} 0 1 = cc e in omega arith)
+      by_both (Some i) (Ok k) q a e =
+          let both : ◌≡◌ {A = Layout × ℕ} (k, i) (l, p) = cc in
+          record { taken = accepted card s (a ∙ ap (λ (x : Layout × ℕ). Ok x.0) both); place = found from s.bytes (sym (q ∙ ap (λ (x : Layout × ℕ). Some x.1) both)) }
+
+  -- refused, with nothing changed
+  pub not_placed : (to : List ℕ) {error : SetError} → place_for missing from card s ≡ Err error → unchanged (set_refusal error) s ≡ set_call (set_refusal missing) from to card s
+  unfolding place_for
+  not_placed to {error} e = by_both (found_place (lowest_with from s.bytes)) (accepted_as card s) refl refl e
+    where
+      as-told : {other : SetError} → ◌≡◌ {A = Result (Layout × ℕ) SetError} (Err other) (Err error) → unchanged (set_refusal error) s ≡ unchanged (set_refusal other) s
+      as-told {other} e = let z : other ≡ error = cc in ap (λ (k : SetError). unchanged (set_refusal k) s) (sym z)
+
+      by_both : (r : Option ℕ) (j : Result Layout SetError) → found_place (lowest_with from s.bytes) ≡ r → accepted_as card s ≡ j → with_place missing r j ≡ Err error → unchanged (set_refusal error) s ≡ set_call (set_refusal missing) from to card s
+      by_both r (Err other) q a e = as-told e ∙ call_refused card s (set_refusal missing) from to a
+      by_both None (Ok k) q a e = as-told e ∙ call_missing card s (set_refusal missing) from to (accepted card s a) (sym q)
+      by_both (Some i) (Ok k) q a e = absurd (let z : ◌≡◌ {A = ℕ} 0 1 = cc e in omega arith)
 
 -- what was left is the set with that place changed, and its own numbers
 pub left_is : (s : CardSet) (to : List ℕ) {p place : ℕ} {bytes numbers : List ℕ} → p ≡ place → bytes ≡ placed p to s.bytes → numbers ≡ numbers_of (summary_of (placed p to s.bytes)) →

@@ -1,9 +1,10 @@
 // The calls "add a card to a set" and "take a card out", whole.
 #![tactic(auto)]
 
-ghost use Rattle.std.specs.Prelude.{◌≡◌};
-ghost use Rattle.set_calls.specs.Sets.{lent_set, untrue, set_change, set_outcome, add_call, remove_call};
-ghost use Rattle.set_calls.specs.inside.Accepted.{set_refusal, accepted_as};
+ghost use Rattle.std.specs.Prelude.{◌≡◌, ◌≤◌, length};
+ghost use Rattle.set_places.specs.Places.{in_place};
+ghost use Rattle.set_calls.specs.Sets.{lent_set, untrue, set_outcome, add_call, remove_call};
+ghost use Rattle.set_calls.specs.inside.Accepted.{set_refusal, change_of, accepted_as, place_for};
 ghost use Rattle.set_calls.specs.declared.SetError.TheVariants.{Unreadable};
 
 use card::layout::{Layout, MOST_SEGMENTS};
@@ -20,13 +21,6 @@ pub struct SetChange {
     pub place: u32,
 }
 
-// A call that changes nothing.
-fn unchanged(refusal: u32) -> SetChange
-    ensures { result ≡ set_change refusal 0 }
-{
-    SetChange { refusal, place: 0 }
-}
-
 // Whether a lent set is of another size, has a spoilt place, or another summary than its own.
 fn is_untrue(set: &[u8], summary: &[u64]) -> bool
     ensures { result ≡ untrue (lent_set set.now summary.now) }
@@ -39,12 +33,14 @@ fn is_untrue(set: &[u8], summary: &[u64]) -> bool
     spoilt || summary != fresh.as_slice()
 }
 
-// Why a call changes nothing before a place is looked for.
+// Why a call changes nothing.
 #[derive(Clone, Copy)]
 pub enum SetError {
     UntrueSet,
     Unreadable(CardError),
     TooLong,
+    FullSet,
+    NotInSet,
 }
 
 impl From<CardError> for SetError {
@@ -64,6 +60,22 @@ impl SetError {
             SetError::UntrueSet => 33,
             SetError::Unreadable(error) => error.number(),
             SetError::TooLong => 30,
+            SetError::FullSet => 31,
+            SetError::NotInSet => 32,
+        }
+    }
+}
+
+impl From<Result<u32, SetError>> for SetChange {
+    ghost from_gives = { λ done change. change ≡ change_of done };
+
+    fn from(done: Result<u32, SetError>) -> SetChange {
+        match done {
+            Ok(place) => SetChange { refusal: 0, place },
+            Err(error) => SetChange {
+                refusal: error.number(),
+                place: 0,
+            },
         }
     }
 }
@@ -82,42 +94,52 @@ fn accept(set: &[u8], summary: &[u64], card: &[u8]) -> Result<Layout, SetError>
     Ok(l)
 }
 
+// An accepted card's layout, and the lowest place with the bytes `wanted`; `missing` where none has them.
+fn place_for(
+    set: &[u8],
+    summary: &[u64],
+    card: &[u8],
+    wanted: &[u8],
+    missing: SetError,
+) -> Result<(Layout, usize), SetError>
+    requires { length wanted.now ≤ length card.now }
+    ensures { result ≡ place_for missing (in_place wanted.now) card.now (lent_set set.now summary.now) }
+{
+    let l = accept(set, summary, card)?;
+    let place = find_place(set, wanted).ok_or(missing)?;
+    Ok((l, place))
+}
+
+// Puts a card into the lowest free place, which it returns, and its numbers into the summary.
+fn try_add(set: &mut [u8], summary: &mut [u64], card: &[u8]) -> Result<u32, SetError>
+    ensures { set_outcome (change_of result) (lent_set set.new summary.new) ≡ add_call card.now (lent_set set.old summary.old) }
+{
+    let (l, place) = place_for(set, summary, card, &[], SetError::FullSet)?;
+    put_in_place(set, place, card);
+    add_numbers(card, l, summary);
+    Ok(place as u32)
+}
+
+// Frees the lowest place with the card, which it returns, and takes its numbers out of the summary.
+fn try_remove(set: &mut [u8], summary: &mut [u64], card: &[u8]) -> Result<u32, SetError>
+    ensures { set_outcome (change_of result) (lent_set set.new summary.new) ≡ remove_call card.now (lent_set set.old summary.old) }
+{
+    let (l, place) = place_for(set, summary, card, card, SetError::NotInSet)?;
+    put_in_place(set, place, &[]);
+    take_numbers(card, l, summary);
+    Ok(place as u32)
+}
+
 // Puts a card into the lowest free place of a set, and its numbers into the summary.
 pub fn add_card(set: &mut [u8], summary: &mut [u64], card: &[u8]) -> SetChange
     ensures { set_outcome result (lent_set set.new summary.new) ≡ add_call card.now (lent_set set.old summary.old) }
 {
-    match accept(set, summary, card) {
-        Err(error) => unchanged(error.number()),
-        Ok(l) => {
-            let Some(place) = find_place(set, &[]) else {
-                return unchanged(31);
-            };
-            put_in_place(set, place, card);
-            add_numbers(card, l, summary);
-            SetChange {
-                refusal: 0,
-                place: place as u32,
-            }
-        }
-    }
+    SetChange::from(try_add(set, summary, card))
 }
 
 // Frees the lowest place of a set with the card, and takes its numbers out of the summary.
 pub fn remove_card(set: &mut [u8], summary: &mut [u64], card: &[u8]) -> SetChange
     ensures { set_outcome result (lent_set set.new summary.new) ≡ remove_call card.now (lent_set set.old summary.old) }
 {
-    match accept(set, summary, card) {
-        Err(error) => unchanged(error.number()),
-        Ok(l) => {
-            let Some(place) = find_place(set, card) else {
-                return unchanged(32);
-            };
-            put_in_place(set, place, &[]);
-            take_numbers(card, l, summary);
-            SetChange {
-                refusal: 0,
-                place: place as u32,
-            }
-        }
-    }
+    SetChange::from(try_remove(set, summary, card))
 }

@@ -12,7 +12,7 @@ use Rattle.set_places.specs.Places.{places, place_at, lowest_with, found_place}
 use Rattle.set_calls.specs.Sets.{CardSet, SetOutcome, unchanged, changed, set_call}
 use Rattle.set_calls.specs.inside.Accepted.{set_refusal, accepted_as}
 use Rattle.set_calls.specs.declared.SetError.{SetError}
-use Rattle.set_calls.specs.declared.SetError.TheVariants.{UntrueSet, Unreadable, TooLong}
+use Rattle.set_calls.specs.declared.SetError.TheVariants.{UntrueSet, Unreadable, TooLong, FullSet, NotInSet}
 use Rattle.set_calls.proofs.Accepted.{Accepted, accepted, call_refused, call_missing, call_changed, found}
 
 -- true is not false
@@ -28,6 +28,8 @@ refused-number (Unreadable BrokenRule) = refl
 refused-number (Unreadable NeedlessLayout) = refl
 refused-number (Unreadable TooFewRows) = refl
 refused-number TooLong = refl
+refused-number FullSet = refl
+refused-number NotInSet = refl
 
 -- ---- the ways
 pub data Way (missing : ℕ) (from to card : List ℕ) (s : CardSet) : SetOutcome → Type 0 where
