@@ -12,7 +12,7 @@ ghost use Rattle.alternates.specs.inside.Noted.{noted_of, leader_in, standing_of
 
 use conversions::narrow;
 use keys::Key;
-use numbers::double::{larger, total_before};
+use numbers::floats::{larger, total_before};
 use timeline::segment::{Segment, segment_seconds, stretch_at};
 
 // No alternate, or a key by its number with the part of the track that it covers.

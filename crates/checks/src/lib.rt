@@ -7,7 +7,7 @@ ghost use Rattle.checks.specs.Checks.{all_finite, nothing_to_do, checked};
 
 use calls::{LONGEST_TRACK, Settings, SheetHead};
 use numbers::counts::fewer;
-use numbers::single::is_finite;
+use numbers::floats::is_finite;
 use sheets::{matches, well_formed};
 
 // What the checks say of a call: refused by a number, the Rust's empty answer, or as many frame

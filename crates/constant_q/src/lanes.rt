@@ -7,7 +7,7 @@ ghost use Rattle.constant_q.specs.inside.Lanes.{Lies, FourLie, lane_value, lane_
 
 use filters::four::{Four, four_at_rest, step_four};
 use filters::resonator::{Delay, at_rest, power, step};
-use numbers::single::larger;
+use numbers::floats::larger;
 
 // Where a row's samples and window values begin, how many there are, and how its resonator is tuned.
 #[derive(Clone, Copy)]

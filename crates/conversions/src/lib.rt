@@ -6,8 +6,6 @@ ghost use Rattle.std.specs.Float.{binary32, binary64};
 ghost use Rattle.std.specs.Float.Ieee.Nearest.{closest};
 ghost use Rattle.laws.specs.Convert.{converted};
 
-use numbers::double::is_nan;
-
 // x at the wider format, which holds every f32.
 pub fn widen(x: f32) -> f64
     ensures { result ≡ x }
@@ -59,7 +57,7 @@ fn narrow_pattern(bits: u64) -> u64
 pub fn narrow(x: f64) -> f32
     ensures { result ≡ converted binary32 x }
 {
-    if is_nan(x) {
+    if x.is_nan() {
         return 0.0 / 0.0;
     }
     let bits = f64::to_bits(x);

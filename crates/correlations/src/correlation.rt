@@ -4,7 +4,7 @@ ghost use Rattle.correlations.specs.inside.Divisors.{divisor_of};
 ghost use Rattle.correlations.specs.inside.Lanes.{products_of, turned_of};
 
 use crate::lanes::sum_lanes;
-use numbers::single::larger;
+use numbers::floats::larger;
 use roots::square_root;
 use std::array;
 

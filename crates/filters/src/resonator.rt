@@ -2,7 +2,7 @@
 ghost use Rattle.std.specs.Prelude.{◌≡◌};
 ghost use Rattle.filters.specs.Resonator.{windowed_of, stepped_of, at_rest, power_of};
 
-use numbers::single::is_finite;
+use numbers::floats::is_finite;
 
 // The two values that a resonator remembers.
 #[derive(Clone, Copy)]

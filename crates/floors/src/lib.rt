@@ -4,13 +4,14 @@
 ghost use Rattle.std.specs.Prelude.{◌≡◌};
 ghost use Rattle.floors.specs.Floor.{floored};
 
-use numbers::single::{is_nan, is_negative, magnitude};
+use numbers::floats::Floating;
+use numbers::single::magnitude;
 
 // IEEE 754 roundToIntegralTowardNegative. From 2^23 on every f32 is whole.
 pub fn floor(x: f32) -> f32
     ensures { result ≡ floored x }
 {
-    if is_nan(x) {
+    if x.is_nan() {
         return x;
     }
     let size = magnitude(x);
@@ -22,7 +23,7 @@ pub fn floor(x: f32) -> f32
     if cut == size {
         return x;
     }
-    if is_negative(x) {
+    if x.is_negative() {
         -((whole + 1) as f32)
     } else {
         cut

@@ -4,7 +4,7 @@ ghost use Rattle.timeline.specs.inside.Segments.{lent_stretches, stretches_in, S
 ghost use Rattle.longest.specs.Longest.{longer, longest_of, reported_of};
 
 use keys::Key;
-use numbers::double::total_before;
+use numbers::floats::total_before;
 use timeline::segment::{Segment, segment_seconds, stretch_at};
 
 // The longer of two segments, the later one where they are as long.

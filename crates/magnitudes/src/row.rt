@@ -3,7 +3,7 @@ ghost use Rattle.std.specs.Prelude.{◌≡◌};
 ghost use Rattle.magnitudes.specs.Magnitudes.{last_power, last_magnitude};
 
 use filters::resonator::{Delay, power};
-use numbers::single::larger;
+use numbers::floats::larger;
 use roots::square_root;
 
 // The power of a row's note. One below 0 and a NaN count as 0.

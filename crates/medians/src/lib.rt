@@ -7,7 +7,7 @@ ghost use Rattle.laws.specs.Values.{plus_zero};
 ghost use Rattle.medians.specs.Median.{median_of};
 ghost use Rattle.ranks.specs.inside.Search.{count_below, key_at_rank, SoughtIn};
 
-use numbers::single::order_key;
+use numbers::floats::Floating;
 use ranks::narrowing::{Sought, narrow, spread_at};
 use ranks::values::value_of_key;
 
@@ -19,7 +19,7 @@ fn count_below(work: &[f32], count: usize, bound: u64) -> usize
     let mut counted = 0;
     let mut i = 0;
     while i < count {
-        let key = order_key(work[i]) as u64;
+        let key = work[i].order_key() as u64;
         i += 1;
         if key < bound {
             counted += 1;

@@ -1,10 +1,11 @@
 -- From what a function's tests say to its definition, once over the format.
-use mathlib.Core.Path.{◌≡◌, sym, ap, ◌∙◌}
+use mathlib.Core.Path.{◌≡◌, refl, sym, ap, ◌∙◌}
 use Prim.Native.Nat.{ℕ, ◌+◌, ◌-◌, ◌*◌, ◌%◌, ◌≤◌, ◌<◌}
 use mathlib.Core.Bool.{Bool, true, false, not, ◌&&◌, ◌||◌, cond}
 use lib.Dec.{T, leb}
-use lib.Ieee.{Float, Format, binary32, top, fits, is_nan, lt, eq, div, of_bits, to_bits}
+use lib.Ieee.{Float, nan, inf, fin, Format, binary32, top, fits, is_nan, lt, eq, div, of_bits, to_bits}
 use lib.Ieee.Bits.{nan_bits_is, nan_bits_above}
+use Rattle.std.specs.Float.{is_sign_negative}
 use borrow.Author.Tests.{lt-ltb, le-ltb}
 use Rattle.laws.specs.Values.{negative}
 use Rattle.laws.specs.Order.{total_order, order_key}
@@ -14,21 +15,27 @@ use Rattle.laws.proofs.Total.{total-order}
 use Rattle.laws.proofs.Signs.{nan_is, not-nan, made-nan}
 
 -- ---- the sign
-pub unsigned-nan : (x : Float) {flag : Bool} → flag ≡ is_nan x → flag ≡ true → false ≡ negative x
-unsigned-nan x e t = sym (ap negative (nan_is x (told e t)))
+pub sign-is : (x : Float) → is_sign_negative x ≡ negative x
+unfolding is_sign_negative
+sign-is nan = refl
+sign-is (inf s) = refl
+sign-is (fin s m e) = refl
+
+pub unsigned-nan : (x : Float) {flag : Bool} → flag ≡ is_nan x → flag ≡ true → not flag ≡ negative x
+unsigned-nan x e t = ap not t ∙ sym (ap negative (nan_is x (told e t)))
 
 pub number : (x : Float) {flag : Bool} → flag ≡ is_nan x → flag ≡ false → T (not (is_nan x))
 number x e t = not-nan x (told e t)
 
 -- ---- the larger and the smaller
-module _ (x y : Float) {nan? minus? : Bool} (n : nan? ≡ is_nan x) where
-  pub larger-is : (t : Bool) → minus? ≡ negative x → (nan? || lt x y || (eq x y && minus?)) ≡ t → cond t y x ≡ maximum_number x y
+module _ (x y : Float) {nan? less? equal? minus? : Bool} (n : nan? ≡ is_nan x) (e : equal? ≡ eq x y) where
+  pub larger-is : (t : Bool) → less? ≡ lt x y → minus? ≡ negative x → (nan? || less? || (equal? && minus?)) ≡ t → cond t y x ≡ maximum_number x y
   unfolding maximum_number
-  larger-is t s e = rw (← e, n, s)
+  larger-is t l s h = rw (← h, n, l, e, s)
 
-  pub smaller-is : (t : Bool) → minus? ≡ negative y → (nan? || lt y x || (eq x y && minus?)) ≡ t → cond t y x ≡ minimum_number x y
+  pub smaller-is : (t : Bool) → less? ≡ lt y x → minus? ≡ negative y → (nan? || less? || (equal? && minus?)) ≡ t → cond t y x ≡ minimum_number x y
   unfolding minimum_number
-  smaller-is t s e = rw (← e, n, s)
+  smaller-is t l s h = rw (← h, n, l, e, s)
 
 -- ---- the order key
 module _ (f : Format) (x : Float) {nan? : Bool} (n : nan? ≡ is_nan x) where

@@ -5,5 +5,6 @@
 pub mod counts;
 pub mod double;
 pub mod flags;
+pub mod floats;
 pub mod single;
 pub mod twelve;

@@ -1,41 +1,55 @@
-// f32: kinds and signs, the total order, the larger and the smaller of two.
-ghost use Rattle.std.specs.Prelude.{◌≡◌};
+// f32: what it shares with f64, and its own.
+ghost use Rattle.std.specs.Prelude.{◌≡◌, refl};
 ghost use Rattle.std.specs.Float.{binary32};
-ghost use Rattle.std.specs.Float.Ieee.{is_nan, of_bits};
-ghost use Rattle.std.specs.Float.Ieee.Scale.{finite};
-ghost use Rattle.laws.specs.Values.{negative, magnitude_of};
-ghost use Rattle.laws.specs.Order.{total_order, order_key};
-ghost use Rattle.laws.specs.Pick.{maximum_number, minimum_number, clamped_to};
+ghost use Rattle.std.specs.Float.Ieee.{of_bits};
+ghost use Rattle.laws.specs.Values.{magnitude_of};
+ghost use Rattle.laws.specs.Pick.{clamped_to};
+ghost use Rattle.numbers.specs.Compared.{less-is, at-most-is};
 
-// Whether x is a NaN: a NaN, and nothing else, differs from itself.
-pub fn is_nan(x: f32) -> bool
-    ensures { result ≡ is_nan x }
-{
-    x != x
-}
+use crate::floats::Floating;
 
-// Whether x is neither a NaN nor an infinity: x - x is 0 for those alone.
-pub fn is_finite(x: f32) -> bool
-    ensures { result ≡ finite x }
-{
-    x - x == 0.0
-}
+impl Floating for f32 {
+    type Key = u32;
 
-// Whether x has the minus sign, as -0 has.
-pub fn is_negative(x: f32) -> bool
-    ensures { result ≡ negative x }
-{
-    if is_nan(x) {
-        return false;
+    ghost format = { binary32 };
+
+    ghost value = { λ x. x };
+
+    ghost key_number = { λ key. key };
+
+    ghost equal = { λ _ _. refl };
+
+    ghost less = { less-is };
+
+    ghost keys_at_most = { at-most-is };
+
+    // x - x is 0 for a finite x alone.
+    fn is_finite(self) -> bool {
+        self - self == 0.0
     }
-    f32::to_bits(x) >= 0x8000_0000
+
+    fn is_negative(self) -> bool {
+        !self.is_nan() && self.is_sign_negative()
+    }
+
+    fn order_key(self) -> u32 {
+        if self.is_nan() {
+            return 0xffff_ffff;
+        }
+        let bits = self.to_bits();
+        if bits < 0x8000_0000 {
+            bits + 0x8000_0000
+        } else {
+            0xffff_ffff - bits
+        }
+    }
 }
 
 // IEEE 754 abs: x with the plus sign.
 pub fn magnitude(x: f32) -> f32
     ensures { result ≡ magnitude_of x }
 {
-    if is_negative(x) { -x } else { x }
+    if x.is_negative() { -x } else { x }
 }
 
 // The value of a pattern.
@@ -46,50 +60,6 @@ pub fn from_pattern(pattern: u32) -> f32
         return 0.0 / 0.0;
     }
     f32::from_bits(pattern)
-}
-
-// A number whose order is the total order's.
-pub fn order_key(x: f32) -> u32
-    ensures { result ≡ order_key binary32 x }
-{
-    if is_nan(x) {
-        return 0xffff_ffff;
-    }
-    let bits = f32::to_bits(x);
-    if bits < 0x8000_0000 {
-        bits + 0x8000_0000
-    } else {
-        0xffff_ffff - bits
-    }
-}
-
-// IEEE 754 totalOrder, a at or before b: -inf .. -0, +0 .. inf, NaN.
-pub fn total_before(a: f32, b: f32) -> bool
-    ensures { result ≡ total_order a b }
-{
-    order_key(a) <= order_key(b)
-}
-
-// IEEE 754 maximumNumber.
-pub fn larger(a: f32, b: f32) -> f32
-    ensures { result ≡ maximum_number a b }
-{
-    if is_nan(a) | (a < b) | ((a == b) & is_negative(a)) {
-        b
-    } else {
-        a
-    }
-}
-
-// IEEE 754 minimumNumber.
-pub fn smaller(a: f32, b: f32) -> f32
-    ensures { result ≡ minimum_number a b }
-{
-    if is_nan(a) | (b < a) | ((a == b) & is_negative(b)) {
-        b
-    } else {
-        a
-    }
 }
 
 // Rust's `x.clamp(low, high)`.

@@ -9,7 +9,7 @@ ghost use Rattle.calls.specs.Call.{seconds_at};
 use crate::blend::blend;
 use calls::Settings;
 use goertzel::goertzel_chroma;
-use numbers::single::is_finite;
+use numbers::floats::is_finite;
 
 // One loud frame: its centre in seconds, its chroma, its energy.
 #[derive(Clone, Copy)]

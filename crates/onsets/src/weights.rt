@@ -4,7 +4,7 @@ ghost use Rattle.laws.specs.Front.{front, list};
 ghost use Rattle.laws.specs.Values.{one};
 ghost use Rattle.onsets.specs.Onsets.{rise_weight, onset_weight, weight_at};
 
-use numbers::single::larger;
+use numbers::floats::larger;
 use roots::square_root;
 
 // 1 and four times the rise from one square root to the next.

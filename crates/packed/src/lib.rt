@@ -6,14 +6,13 @@ ghost use Rattle.packed.specs.Packing.{whole_times, thousandths_of, milliseconds
 
 use bits::masks::{high_bits, low_bits};
 use conversions::widen;
-use numbers::double::is_nan;
 
 // How many whole 1 / n there are in x, rounded down, up to `limit`; none below 0.
 fn whole_times(x: f64, n: u64, limit: u64) -> Option<u64>
     requires { (1 ≤ n) × (n ≤ 1000) × (limit < 2 ^ 32) }
     ensures { result ≡ whole_times x n limit }
 {
-    if is_nan(x) {
+    if x.is_nan() {
         return None;
     }
     if x < 0.0 {

@@ -9,7 +9,7 @@ ghost use Rattle.roots.specs.Root.{root_of};
 
 use conversions::widen;
 use floors::floor;
-use numbers::single;
+use numbers::floats::{Floating, is_finite, larger, smaller, total_before};
 use roots::square_root;
 
 #[unsafe(no_mangle)]
@@ -37,33 +37,33 @@ pub extern "C" fn probe_widen(x: f32) -> f64
 pub extern "C" fn probe_is_finite_f32(x: f32) -> bool
     ensures { result ≡ finite x }
 {
-    single::is_finite(x)
+    is_finite(x)
 }
 
 #[unsafe(no_mangle)]
 pub extern "C" fn probe_order_key_f32(x: f32) -> u32
     ensures { result ≡ order_key binary32 x }
 {
-    single::order_key(x)
+    x.order_key()
 }
 
 #[unsafe(no_mangle)]
 pub extern "C" fn probe_total_before_f32(a: f32, b: f32) -> bool
     ensures { result ≡ total_order a b }
 {
-    single::total_before(a, b)
+    total_before(a, b)
 }
 
 #[unsafe(no_mangle)]
 pub extern "C" fn probe_larger_f32(a: f32, b: f32) -> f32
     ensures { result ≡ maximum_number a b }
 {
-    single::larger(a, b)
+    larger(a, b)
 }
 
 #[unsafe(no_mangle)]
 pub extern "C" fn probe_smaller_f32(a: f32, b: f32) -> f32
     ensures { result ≡ minimum_number a b }
 {
-    single::smaller(a, b)
+    smaller(a, b)
 }

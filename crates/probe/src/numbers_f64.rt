@@ -7,7 +7,7 @@ ghost use Rattle.laws.specs.Order.{total_order, order_key};
 ghost use Rattle.laws.specs.Pick.{maximum_number, minimum_number};
 
 use conversions::narrow;
-use numbers::double;
+use numbers::floats::{Floating, is_finite, larger, smaller, total_before};
 
 #[unsafe(no_mangle)]
 pub extern "C" fn probe_narrow(x: f64) -> f32
@@ -20,33 +20,33 @@ pub extern "C" fn probe_narrow(x: f64) -> f32
 pub extern "C" fn probe_is_finite_f64(x: f64) -> bool
     ensures { result ≡ finite x }
 {
-    double::is_finite(x)
+    is_finite(x)
 }
 
 #[unsafe(no_mangle)]
 pub extern "C" fn probe_order_key_f64(x: f64) -> u64
     ensures { result ≡ order_key binary64 x }
 {
-    double::order_key(x)
+    x.order_key()
 }
 
 #[unsafe(no_mangle)]
 pub extern "C" fn probe_total_before_f64(a: f64, b: f64) -> bool
     ensures { result ≡ total_order a b }
 {
-    double::total_before(a, b)
+    total_before(a, b)
 }
 
 #[unsafe(no_mangle)]
 pub extern "C" fn probe_larger_f64(a: f64, b: f64) -> f64
     ensures { result ≡ maximum_number a b }
 {
-    double::larger(a, b)
+    larger(a, b)
 }
 
 #[unsafe(no_mangle)]
 pub extern "C" fn probe_smaller_f64(a: f64, b: f64) -> f64
     ensures { result ≡ minimum_number a b }
 {
-    double::smaller(a, b)
+    smaller(a, b)
 }

@@ -4,7 +4,8 @@ ghost use Rattle.ranks.specs.inside.Search.{key_at_rank, SoughtIn};
 ghost use Rattle.ranks.specs.inside.Narrow.{count_under, divides, kept, within, Counted, Narrowed};
 
 use crate::values::value_of_key;
-use numbers::single::{from_pattern, order_key};
+use numbers::floats::Floating;
+use numbers::single::from_pattern;
 
 // The value at `rank` of the first `left` values is sought; its order key is one of the `width` keys from `low` on.
 #[derive(Clone, Copy)]
@@ -63,7 +64,7 @@ fn dividing(x: f32, other: f32) -> f32
 fn just_above(x: f32) -> f32
     ensures { T (divides result) }
 {
-    let key = order_key(x);
+    let key = x.order_key();
     if key < 0xff80_0000 {
         return dividing(value_of_key(key + 1), from_pattern(1));
     }
@@ -198,11 +199,11 @@ pub fn narrow(work: &mut [f32], sought: Sought, spread: usize) -> Sought
         return sought;
     }
     let kept = keep_within(work, left, stretch.low, stretch.high);
-    let low = order_key(stretch.low) as u64;
+    let low = stretch.low.order_key() as u64;
     Sought {
         left: kept,
         rank: rank - stretch.below,
         low: low,
-        width: order_key(stretch.high) as u64 - low,
+        width: stretch.high.order_key() as u64 - low,
     }
 }

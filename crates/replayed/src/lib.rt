@@ -7,7 +7,8 @@ ghost use Rattle.std.specs.Prelude.{◌≡◌, ◌+◌, ◌*◌, ◌≤◌, leng
 ghost use Rattle.replayed.specs.Records.{word_at, value_at, same_value, chroma_at, same_scores, same_key, agrees, differing};
 
 use key_choice::classify::{Classified, classify_key, key_confidence};
-use numbers::single::{from_pattern, order_key};
+use numbers::floats::Floating;
+use numbers::single::from_pattern;
 use std::array;
 
 // The number in the four bytes from `at` on.
@@ -30,7 +31,7 @@ pub fn value_at(bytes: &[u8], at: usize) -> f32
 pub fn same_value(a: f32, b: f32) -> bool
     ensures { result ≡ same_value a b }
 {
-    order_key(a) == order_key(b)
+    a.order_key() == b.order_key()
 }
 
 // The chroma of the record that starts at `start`.

@@ -8,8 +8,6 @@ ghost use Rattle.std.specs.Prelude.{◌≡◌, ◌+◌, ◌*◌, ◌<◌};
 ghost use Rattle.roots.specs.Root.{root_of};
 ghost use Rattle.roots.specs.inside.Steps.{Scaled, Guess, Floor, Nearest, Parts, Evened, RootOfParts, RootOfBits};
 
-use numbers::single::is_nan;
-
 // A straight line on each half of the range, close to √n: measured within 1 %. No proof leans on how close.
 fn first_guess(n: u64) -> u64
     requires { Scaled n }
@@ -91,7 +89,7 @@ fn root_of_bits(b: u32) -> u32
 pub fn square_root(x: f32) -> f32
     ensures { result ≡ root_of x }
 {
-    if is_nan(x) {
+    if x.is_nan() {
         return x;
     }
     let b = f32::to_bits(x);

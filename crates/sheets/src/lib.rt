@@ -8,7 +8,7 @@ ghost use Rattle.calls.specs.Call.{lent_sheet};
 ghost use Rattle.sheets.specs.Sheet.{matches_call, notes_in, from_to, is_weight, is_length, joined_length, lists_fit, well_formed};
 
 use calls::{Settings, SheetHead};
-use numbers::single::is_finite;
+use numbers::floats::is_finite;
 
 // The sheet was made for this call's rate, notes and frame size.
 pub fn matches(settings: Settings, head: SheetHead) -> bool

@@ -5,14 +5,13 @@ ghost use Rattle.std.specs.Float.Ieee.{to_bits};
 ghost use Rattle.replayed.specs.Records.{word_at};
 ghost use Rattle.stored_analyses.specs.Rows.{same_values, same_chroma, same_chromas, same_time, same_times, same_numbers};
 
-use numbers::double::is_nan;
 use replayed::{same_value, value_at, word_at};
 
 // The pattern of a value; every NaN has the same.
 fn pattern(x: f64) -> u64
     ensures { result ≡ to_bits binary64 x }
 {
-    if is_nan(x) {
+    if x.is_nan() {
         return 0x7ff8_0000_0000_0000;
     }
     f64::to_bits(x)

@@ -6,7 +6,7 @@ ghost use Rattle.timeline.specs.inside.Segments.{Joinable, put_segment, seconds_
 use crate::stored::stored_key;
 use keys::Key;
 use numbers::counts::fewer;
-use numbers::double::{larger, smaller};
+use numbers::floats::{larger, smaller};
 
 // The Rust's KeySegment: [start, end) in seconds, its key and how sure that is; and how many windows' estimates it rests on.
 #[derive(Clone, Copy)]

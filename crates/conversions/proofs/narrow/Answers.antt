@@ -11,14 +11,14 @@ use Rattle.conversions.proofs.Narrows.{read_back, read-lt, read_number, narrowed
 use Rattle.conversions.proofs.narrow.Goals as goal
 
 pub returns-then-is_nan : goal.returns-then-is_nan
-returns-then-is_nan c = made-nan binary32 ∙ narrowed-nan c.args.x c.is_nan.ensures c.if-is_nan.true
+returns-then-is_nan c = made-nan binary32 ∙ narrowed-nan c.args.x c.is_nan.ensures.value c.if-is_nan.true
 
 pub float_to_bits-bits : goal.float_to_bits-bits
-float_to_bits-bits c = number c.args.x c.is_nan.ensures c.if-is_nan.false
+float_to_bits-bits c = number c.args.x c.is_nan.ensures.value c.if-is_nan.false
 
 pub narrow_pattern-requires : goal.narrow_pattern-requires
 narrow_pattern-requires c =
-    let no_nan : is_nan c.args.x ≡ false = told c.is_nan.ensures c.if-is_nan.false in
+    let no_nan : is_nan c.args.x ≡ false = told c.is_nan.ensures.value c.if-is_nan.false in
     let held : T (fits binary64 c.args.x) = subst T (sym c.well_formed.0.1) tt in
     omega (arith, number-pattern binary64 c.args.x (held) (no_nan))
 
@@ -30,7 +30,7 @@ overflow_cast-result c =
 
 pub float_from_bits-result : goal.float_from_bits-result
 float_from_bits-result c =
-    let no_nan : is_nan c.args.x ≡ false = told c.is_nan.ensures c.if-is_nan.false in
+    let no_nan : is_nan c.args.x ≡ false = told c.is_nan.ensures.value c.if-is_nan.false in
     let held : T (fits binary64 c.args.x) = subst T (sym c.well_formed.0.1) tt in
     let as_read : of_bits binary64 (to_bits binary64 c.args.x) ≡ c.args.x = of_bits-to_bits binary64 c.args.x (held) in
     read_number _ _ c.narrow_pattern.result (as_read) c.narrow_pattern.ensures (no_nan)
@@ -38,7 +38,7 @@ float_from_bits-result c =
 -- ---- the minus sign
 pub narrow_pattern-requires-else-bits-lt9223372036854775808 : goal.narrow_pattern-requires-else-bits-lt9223372036854775808
 narrow_pattern-requires-else-bits-lt9223372036854775808 c =
-    let no_nan : is_nan c.args.x ≡ false = told c.is_nan.ensures c.if-is_nan.false in
+    let no_nan : is_nan c.args.x ≡ false = told c.is_nan.ensures.value c.if-is_nan.false in
     let held : T (fits binary64 c.args.x) = subst T (sym c.well_formed.0.1) tt in
     let x = c.args.x in
     omega (arith, number-pattern binary64 x (held) (no_nan), to_bits-lt binary64 x (held))
@@ -47,7 +47,7 @@ pub overflow_cast-result-else-bits-lt9223372036854775808 : goal.overflow_cast-re
 overflow_cast-result-else-bits-lt9223372036854775808 c =
     let held : T (fits binary64 c.args.x) = subst T (sym c.well_formed.0.1) tt in
     let minus : negative c.args.x ≡ true = let x = c.args.x in
-    sym (sign_bit binary64 x (held) ((number c.args.x c.is_nan.ensures c.if-is_nan.false))) ∙ le-leb 9223372036854775808 (to_bits binary64 x) c.if-bits-lt9223372036854775808.false in
+    sym (sign_bit binary64 x (held) ((number c.args.x c.is_nan.ensures.value c.if-is_nan.false))) ∙ le-leb 9223372036854775808 (to_bits binary64 x) c.if-bits-lt9223372036854775808.false in
     let minus-sign : T (negative c.args.x) = subst T (sym (minus)) tt in
     let size-read : of_bits binary64 (to_bits binary64 c.args.x - 9223372036854775808) ≡ magnitude_of c.args.x = magnitude-read binary64 c.args.x (held) (minus-sign) in
     record { fits = read-lt _ _ c.narrow_pattern-else-bits-lt9223372036854775808.result (size-read) c.narrow_pattern-else-bits-lt9223372036854775808.ensures }
@@ -56,7 +56,7 @@ pub float_from_bits-result-else-bits-lt9223372036854775808 : goal.float_from_bit
 float_from_bits-result-else-bits-lt9223372036854775808 c =
     let held : T (fits binary64 c.args.x) = subst T (sym c.well_formed.0.1) tt in
     let minus : negative c.args.x ≡ true = let x = c.args.x in
-    sym (sign_bit binary64 x (held) ((number c.args.x c.is_nan.ensures c.if-is_nan.false))) ∙ le-leb 9223372036854775808 (to_bits binary64 x) c.if-bits-lt9223372036854775808.false in
+    sym (sign_bit binary64 x (held) ((number c.args.x c.is_nan.ensures.value c.if-is_nan.false))) ∙ le-leb 9223372036854775808 (to_bits binary64 x) c.if-bits-lt9223372036854775808.false in
     let minus-sign : T (negative c.args.x) = subst T (sym (minus)) tt in
     let size-read : of_bits binary64 (to_bits binary64 c.args.x - 9223372036854775808) ≡ magnitude_of c.args.x = magnitude-read binary64 c.args.x (held) (minus-sign) in
     let x = c.args.x in
@@ -72,7 +72,7 @@ pub returns-else-bits-lt9223372036854775808 : goal.returns-else-bits-lt922337203
 returns-else-bits-lt9223372036854775808 c =
     let held : T (fits binary64 c.args.x) = subst T (sym c.well_formed.0.1) tt in
     let minus : negative c.args.x ≡ true = let x = c.args.x in
-    sym (sign_bit binary64 x (held) ((number c.args.x c.is_nan.ensures c.if-is_nan.false))) ∙ le-leb 9223372036854775808 (to_bits binary64 x) c.if-bits-lt9223372036854775808.false in
+    sym (sign_bit binary64 x (held) ((number c.args.x c.is_nan.ensures.value c.if-is_nan.false))) ∙ le-leb 9223372036854775808 (to_bits binary64 x) c.if-bits-lt9223372036854775808.false in
     let minus-sign : T (negative c.args.x) = subst T (sym (minus)) tt in
     let size-read : of_bits binary64 (to_bits binary64 c.args.x - 9223372036854775808) ≡ magnitude_of c.args.x = magnitude-read binary64 c.args.x (held) (minus-sign) in
     ap neg (read_back _ _ c.narrow_pattern-else-bits-lt9223372036854775808.result (size-read) c.narrow_pattern-else-bits-lt9223372036854775808.ensures) ∙ narrowed-minus c.args.x (minus)

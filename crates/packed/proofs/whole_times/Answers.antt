@@ -17,14 +17,14 @@ use Rattle.packed.proofs.Values.{tiny, usual, big, field_of, digits_of}
 use Rattle.packed.proofs.whole_times.Goals as goal
 
 pub returns-then-is_nan : goal.returns-then-is_nan
-returns-then-is_nan c = times-of-nan c.args.x c.args.n c.args.limit c.is_nan.ensures c.if-is_nan.true
+returns-then-is_nan c = times-of-nan c.args.x c.args.n c.args.limit c.is_nan.ensures.value c.if-is_nan.true
 
 pub returns-then-x : goal.returns-then-x
 unfolding of_bits
 returns-then-x c = times-below-zero c.args.x c.args.n c.args.limit c.if-x.true
 
 pub float_to_bits-bits : goal.float_to_bits-bits
-float_to_bits-bits c = not-nan c.args.x (told c.is_nan.ensures c.if-is_nan.false)
+float_to_bits-bits c = not-nan c.args.x (told c.is_nan.ensures.value c.if-is_nan.false)
 
 pub returns-then-field-ge1055 : goal.returns-then-field-ge1055
 unfolding of_bits

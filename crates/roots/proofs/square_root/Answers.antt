@@ -12,10 +12,10 @@ use Rattle.roots.proofs.Special.{root-of-nan, root-of-infinity, root-of-zero, ro
 use Rattle.roots.proofs.square_root.Goals as goal
 
 pub returns-then-is_nan : goal.returns-then-is_nan
-returns-then-is_nan c = root-of-nan c.args.x c.is_nan.ensures c.if-is_nan.true
+returns-then-is_nan c = root-of-nan c.args.x c.is_nan.ensures.value c.if-is_nan.true
 
 pub float_to_bits-b : goal.float_to_bits-b
-float_to_bits-b c = number c.args.x c.is_nan.ensures c.if-is_nan.false
+float_to_bits-b c = number c.args.x c.is_nan.ensures.value c.if-is_nan.false
 
 pub returns-then-b-eq2139095040 : goal.returns-then-b-eq2139095040
 returns-then-b-eq2139095040 c =
@@ -35,7 +35,7 @@ returns-then-b-gt2147483648 c =
 pub root_of_bits-requires : goal.root_of_bits-requires
 root_of_bits-requires c =
     let held : T (fits binary32 c.args.x) = subst T (sym c.well_formed.0.1) tt in
-    let h = number-pattern binary32 c.args.x (held) (told c.is_nan.ensures c.if-is_nan.false) in
+    let h = number-pattern binary32 c.args.x (held) (told c.is_nan.ensures.value c.if-is_nan.false) in
     let l = to_bits-lt binary32 c.args.x (held) in
     omega arith
 

@@ -7,7 +7,7 @@ use Rattle.stored_analyses.proofs.rows.pattern.Goals as goal
 
 pub returns-then-is_nan : goal.returns-then-is_nan
 unfolding to_bits
-returns-then-is_nan c = sym (ap (to_bits binary64) (nan_is c.args.x (told c.is_nan.ensures c.if-is_nan.true)))
+returns-then-is_nan c = sym (ap (to_bits binary64) (nan_is c.args.x (told c.is_nan.ensures.value c.if-is_nan.true)))
 
 pub float_to_bits-result : goal.float_to_bits-result
-float_to_bits-result c = not-nan c.args.x (told c.is_nan.ensures c.if-is_nan.false)
+float_to_bits-result c = not-nan c.args.x (told c.is_nan.ensures.value c.if-is_nan.false)

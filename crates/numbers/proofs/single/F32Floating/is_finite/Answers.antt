@@ -1,8 +1,8 @@
 -- x - x is +0 for a finite x, and a NaN for any other.
 use lib.Ieee.{binary32, of_bits}
 use Rattle.laws.proofs.Zero.{finite-test}
-use Rattle.numbers.proofs.single.is_finite.Goals as goal
+use Rattle.numbers.proofs.single.F32Floating.is_finite.Goals as goal
 
 pub returns : goal.returns
 unfolding of_bits
-returns c = finite-test binary32 c.args.x
+returns c = finite-test binary32 c.args.self
