@@ -1,4 +1,4 @@
--- What the functions' proofs share: halves of a range of keys, zeros, and the value of a key.
+-- What the functions' proofs share: halves of a range of keys, the value of a key, and a slice whose first numbers are zeroed.
 mod Halves
 mod ByKey
-mod Zeroed
+pub mod Zeroed

@@ -1,23 +1,14 @@
--- A list with one entry throughout, written a place at a time.
-use mathlib.Core.Path.{◌≡◌, refl, sym, ap, ◌∙◌}
-use mathlib.Core.List.{List, [], ◌∷◌, ◌++◌}
-use Prim.Native.Nat.{ℕ, zero, suc}
-use native.Mathlib.Numerals.{add-one}
-use lib.ListN.{drop, replicate, length-replicate, replicate-append-replicate}
-use Rattle.laws.specs.Front.{front, list}
-use Rattle.laws.proofs.Front.{Filled, filled-to}
+-- The first numbers of a slice zeroed, and those behind them as they stood.
+use mathlib.Core.Path.{◌≡◌, sym, ap, ◌∙◌}
+use mathlib.Core.List.{List, ◌++◌}
+use Prim.Native.Nat.{ℕ, ◌≤◌}
+use lib.ListN.{length, take, drop, replicate, length-replicate}
+use lib.Seq.{length-take-le}
+use lib.Ieee.{Float}
+use Rattle.laws.specs.Front.{front}
+use Rattle.laws.specs.Values.{plus_zero}
 
-list-replicate : {A : Type 0} (a : A) (n : ℕ) → list (λ (k : ℕ). a) n ≡ replicate n a
-unfolding list
-list-replicate a zero = refl
-list-replicate a (suc n) =
-    ap (λ (l : List _). l ++ (a ∷ [])) (list-replicate a n) ∙ replicate-append-replicate n 1 a ∙ ap (λ (k : ℕ). replicate k a) (add-one n)
-
-pub filled-same : {A : Type 0} (a : A) (m₀ m : List A) (i n : ℕ) → Filled (λ (k : ℕ). a) m₀ m i → i ≡ n → m ≡ front (replicate n a) m₀
-filled-same a m₀ m i n e h = filled-to _ m₀ m i n e h ∙ ap (λ (l : List _). front l m₀) (list-replicate a n)
-
--- numbers that were zeroed after others, with the same numbers behind them
-pub zeroed_rest : {A : Type 0} (a : A) (count : ℕ) (m₀ m : List A) {left : List A} → left ≡ front (replicate count a) m → drop count m ≡ drop count m₀ → left ≡ front (replicate count a) m₀
-zeroed_rest {A} a count m₀ m e h =
-    let long = length-replicate count a in
-    e ∙ ap (λ (l : List A). replicate count a ++ l) (ap (λ (k : ℕ). drop k m) long ∙ h ∙ ap (λ (k : ℕ). drop k m₀) (sym long))
+pub zeroed-first : {count : ℕ} (work : List Float) {values : List Float} → count ≤ length work → values ≡ replicate (length (take count work)) plus_zero → values ++ drop count work ≡ front (replicate count plus_zero) work
+zeroed-first {count} work h e =
+    ap (λ (l : List Float). l ++ drop count work) (e ∙ ap (λ (n : ℕ). replicate n plus_zero) (length-take-le count work h))
+    ∙ ap (λ (k : ℕ). replicate count plus_zero ++ drop k work) (sym (length-replicate count plus_zero))

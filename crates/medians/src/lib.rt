@@ -1,8 +1,7 @@
 // The median of f32 values by selection: those that a sample shows far from it go, then its order key is found bit by bit, by counting.
 #![tactic(auto)]
 
-ghost use Rattle.std.specs.Prelude.{◌≡◌, ◌/◌, ◌<◌, ◌≤◌, length, take, drop, replicate};
-ghost use Rattle.laws.specs.Front.{front};
+ghost use Rattle.std.specs.Prelude.{◌≡◌, ◌/◌, ◌<◌, length, take, replicate};
 ghost use Rattle.laws.specs.Values.{plus_zero};
 ghost use Rattle.medians.specs.Median.{median_of};
 ghost use Rattle.ranks.specs.inside.Search.{count_below, key_at_rank, SoughtIn};
@@ -11,17 +10,13 @@ use numbers::floats::Floating;
 use ranks::narrowing::{Sought, narrow, spread_at};
 use ranks::values::value_of_key;
 
-// How many of the first `count` values have an order key below the bound.
-fn count_below(work: &[f32], count: usize, bound: u64) -> usize
-    requires { count ≤ length work.now }
-    ensures { result ≡ count_below work.now count bound }
+// How many values have an order key below the bound.
+fn count_below(values: &[f32], bound: u64) -> usize
+    ensures { result ≡ count_below values.now bound }
 {
     let mut counted = 0;
-    let mut i = 0;
-    while i < count {
-        let key = work[i].order_key() as u64;
-        i += 1;
-        if key < bound {
+    for value in values {
+        if (value.order_key() as u64) < bound {
             counted += 1;
         }
     }
@@ -31,15 +26,14 @@ fn count_below(work: &[f32], count: usize, bound: u64) -> usize
 // The order key of the value at a rank, where it is one of the `width` keys from `low` on: half of them go in a turn.
 fn bisect(work: &[f32], sought: Sought) -> u32
     requires { SoughtIn work.now sought.left sought.rank sought.low sought.width }
-    ensures { result ≡ key_at_rank work.now sought.left sought.rank }
+    ensures { result ≡ key_at_rank (take sought.left work.now) sought.rank }
 {
-    let left = sought.left;
-    let rank = sought.rank;
+    let values = &work[..sought.left];
     let mut key = sought.low;
     let mut width = sought.width;
     while width > 1 {
         let half = width / 2;
-        if count_below(work, left, key + half) <= rank {
+        if count_below(values, key + half) <= sought.rank {
             key += half;
             width -= half;
         } else {
@@ -49,36 +43,21 @@ fn bisect(work: &[f32], sought: Sought) -> u32
     key as u32
 }
 
-// The order key of the value at `rank` in total order; of the first `count` values those that can't be it go.
-fn find_key(work: &mut [f32], count: usize, rank: usize) -> u32
-    requires { (rank < count) × (count ≤ length work.old) }
-    ensures { (result ≡ key_at_rank work.old count rank) × (drop count work.new ≡ drop count work.old) }
+// The order key of the value at `rank` in total order; those that can't be it go.
+fn find_key(work: &mut [f32], rank: usize) -> u32
+    requires { rank < length work.old }
+    ensures { result ≡ key_at_rank work.old rank }
 {
     let mut sought = Sought {
-        left: count,
-        rank: rank,
+        left: work.len(),
+        rank,
         low: 0,
         width: 0x1_0000_0000,
     };
-    let mut turn = 0;
-    while turn < 8 {
-        let spread = spread_at(turn);
-        turn += 1;
-        sought = narrow(work, sought, spread);
+    for turn in 0..8 {
+        sought = narrow(work, sought, spread_at(turn));
     }
     bisect(work, sought)
-}
-
-// Sets the first `count` values to +0.
-fn set_to_zero(work: &mut [f32], count: usize)
-    requires { count ≤ length work.old }
-    ensures { work.new ≡ front (replicate count plus_zero) work.old }
-{
-    let mut i = 0;
-    while i < count {
-        work[i] = 0.0;
-        i += 1;
-    }
 }
 
 // The rank of the median: of two in the middle, the later one.
@@ -89,12 +68,13 @@ fn middle_rank(count: usize) -> usize
     count / 2
 }
 
-// The median of the first `count` values, which end as +0.
-pub fn select(work: &mut [f32], count: usize) -> f32
-    requires { (0 < count) × (count ≤ length work.old) }
-    ensures { (result ≡ median_of (take count work.old)) × (work.new ≡ front (replicate count plus_zero) work.old) }
+// The median of the values, which end as +0.
+pub fn select(values: &mut [f32]) -> f32
+    requires { 0 < length values.old }
+    ensures median { result ≡ median_of values.old }
+    ensures zeroed { values.new ≡ replicate (length values.old) plus_zero }
 {
-    let key = find_key(work, count, middle_rank(count));
-    set_to_zero(work, count);
+    let key = find_key(values, middle_rank(values.len()));
+    values.fill(0.0);
     value_of_key(key)
 }

@@ -53,7 +53,7 @@ fn medians_by_weights(
     let mut bin = 0;
     while bin < 12 {
         weigh_bin(frames, energies, weights, bin, count, work);
-        chroma[bin] = select(work, count);
+        chroma[bin] = select(&mut work[..count]);
         bin += 1;
     }
     chroma

@@ -14,7 +14,7 @@ pub extern "C" fn probe_median(work: &mut [f32], count: usize) -> f32
     if (count == 0) | (count > work.len()) {
         return 0.0;
     }
-    select(work, count)
+    select(&mut work[..count])
 }
 
 // The twelve medians of the first weighted frames, and zeros where there is none or a slice is too short.

@@ -26,6 +26,10 @@ each_at each_none k d h = absurd (not-suc-le-zero h)
 each_at (each_more p ps) zero d h = p
 each_at (each_more p ps) (suc k) d h = each_at ps k d (le_of_suc-le-suc h)
 
+pub each_all : {A : Type 0} {P : A → Type 0} (xs : List A) (d : A) → ((k : ℕ) → P (get_or xs k d)) → Each P xs
+each_all [] d h = each_none
+each_all (x ∷ xs) d h = each_more (h 0) (each_all xs d (λ (k : ℕ). h (suc k)))
+
 pub each-so : {A : Type 0} {P Q : A → Type 0} {xs : List A} → ((x : A) → P x → Q x) → Each P xs → Each Q xs
 each-so f each_none = each_none
 each-so f (each_more {x = x} p ps) = each_more (f x p) (each-so f ps)

@@ -1,20 +1,21 @@
 -- Values kept between two bounds: each count among them is that of all values without those below the lower bound, so the key at a rank stays.
 use mathlib.Core.Path.{◌≡◌, refl, sym, ap, ◌∙◌, subst}
 use mathlib.Core.Logic.{inl, inr}
-use mathlib.Core.Bool.{Bool, true, false, not, cond}
+use mathlib.Core.Bool.{Bool}
 use mathlib.Core.List.{List, [], ◌∷◌, ◌++◌}
 use Prim.Native.Nat.{ℕ, suc, ◌+◌, ◌-◌, ◌≤◌, ◌<◌}
 use native.Mathlib.Omega.{arith}
 use lib.Dec.{T}
-use lib.ListN.{length, get_or, take, drop}
-use lib.Seq.{length-take-le, drop-drop}
+use lib.ListN.{length, get_or, take, drop, length-append}
+use lib.Seq.{length-take-le, take-append-le}
+use Rattle.std.specs.Prelude.{filter}
 use lib.Ieee.{Float, nan, binary32}
 use borrow.Author.Tests.{lt-ltb, le-ltb}
 use Rattle.laws.specs.Order.{order_key}
 use Rattle.laws.proofs.Cases.{lt-or-ge, by-test}
 use Rattle.ranks.specs.Sorted.{sorted_of}
 use Rattle.ranks.specs.inside.Search.{count_below, key_at_rank, SoughtIn}
-use Rattle.ranks.specs.inside.Narrow.{divides, kept, within, Counted, Narrowed}
+use Rattle.ranks.specs.inside.Narrow.{divides, within, Counted, Narrowed}
 use Rattle.ranks.proofs.Count.{keys_below, Each, each_none, each_more, below_all, below-mono, key-at, place-least, place-most, not_beyond}
 use Rattle.ranks.proofs.Sorted.{below-sorted, length-sorted, ascending-sorted, InSingle}
 use Rattle.ranks.proofs.Found.{count-below-is, each_take}
@@ -27,44 +28,19 @@ key_of = order_key binary32
 abbrev below : ℕ → List Float → ℕ
 below = keys_below (order_key binary32)
 
--- ---- one value more
-pub kept_append : (test : Float → Bool) (xs ys : List Float) → kept test (xs ++ ys) ≡ kept test xs ++ kept test ys
-unfolding kept
-kept_append test [] ys = refl
-kept_append test (x ∷ xs) ys =
-    by-test (λ (l : List Float). cond (test x) (x ∷ kept test (xs ++ ys)) (kept test (xs ++ ys)) ≡ l ++ kept test ys) (test x) (λ (t : T (test x)). rw (passes (test x) t, kept_append test xs ys)) (λ (t : T (not (test x))). rw (fails (test x) t, kept_append test xs ys))
-  where
-    passes : (b : Bool) → T b → b ≡ true
-    passes true h = refl
-    passes false h = absurd h
-
-    fails : (b : Bool) → T (not b) → b ≡ false
-    fails true h = absurd h
-    fails false h = refl
-
-pub kept-one : (test : Float → Bool) (x : Float) → test x ≡ true → kept test (x ∷ []) ≡ x ∷ []
-unfolding kept
-kept-one test x e = rw e
-
-pub kept-none : (test : Float → Bool) (x : Float) → test x ≡ false → kept test (x ∷ []) ≡ []
-unfolding kept
-kept-none test x e = rw e
-
 -- ---- what holds of the values kept
-each-kept : {P : Float → Type 0} (test : Float → Bool) {xs : List Float} → Each P xs → Each P (kept test xs)
-unfolding kept
+each-kept : {P : Float → Type 0} (test : Float → Bool) {xs : List Float} → Each P xs → Each P (filter test xs)
 each-kept test each_none = each_none
 each-kept {P} test (each_more {x = x} p ps) = by-test (λ (l : List Float). Each P l) (test x) (λ _. each_more p (each-kept test ps)) (λ _. each-kept test ps)
 
-pub kept-fewer : (test : Float → Bool) (xs : List Float) → length (kept test xs) ≤ length xs
-unfolding kept
+pub kept-fewer : (test : Float → Bool) (xs : List Float) → length (filter test xs) ≤ length xs
 kept-fewer test [] = omega arith
 kept-fewer test (x ∷ xs) = by-test (λ (l : List Float). length l ≤ suc (length xs)) (test x) (λ _. omega (arith, kept-fewer test xs)) (λ _. omega (arith, kept-fewer test xs))
 
 module _ (low high : Float) (l : T (divides low)) (h : T (divides high)) (f : InSingle low) (g : InSingle high) where
   module _ (p : ℕ) (from : key_of low ≤ p) (to : p ≤ key_of high) where
-    counts-kept : {xs : List Float} → Each InSingle xs → below p (kept (within low high) xs) + below (key_of low) xs ≡ below p xs
-    unfolding kept keys_below
+    counts-kept : {xs : List Float} → Each InSingle xs → below p (filter (within low high) xs) + below (key_of low) xs ≡ below p xs
+    unfolding keys_below
     counts-kept each_none = refl
     counts-kept (each_more {x = x} {xs = xs} fit fits) =
         let rest = counts-kept fits in
@@ -88,7 +64,7 @@ module _ (low high : Float) (l : T (divides low)) (h : T (divides high)) (f : In
     ]
 
     abbrev left : List Float
-    left = kept (within low high) xs
+    left = filter (within low high) xs
 
     abbrev place : ℕ
     place = rank - below (key_of low) xs
@@ -129,7 +105,7 @@ module _ (low high : Float) (l : T (divides low)) (h : T (divides high)) (f : In
         ]
 
 -- ---- the first values of a slice, after those within the bounds moved to the front
-module _ (ws after : List Float) (n rank r : ℕ) (low high : Float) (b u : ℕ) (fit : (i : ℕ) → InSingle (get_or ws i nan)) (room : n ≤ length ws) (counts : Counted ws n low high b u) (least : b ≤ rank) (most : rank < u) (long : length after ≡ length ws) (many : r ≡ length (kept (within low high) (take n ws))) (here : take r after ≡ kept (within low high) (take n ws)) (rest : drop n after ≡ drop n ws) where
+module _ (ws moved : List Float) (n rank r : ℕ) (low high : Float) (b u : ℕ) (fit : (i : ℕ) → InSingle (get_or ws i nan)) (room : n ≤ length ws) (counts : Counted (take n ws) low high b u) (least : b ≤ rank) (most : rank < u) (long : length moved ≡ length (take n ws)) (many : r ≡ length (filter (within low high) (take n ws))) (front : take r moved ≡ filter (within low high) (take n ws)) where
   abbrev first : List Float
   first = take n ws
 
@@ -137,16 +113,25 @@ module _ (ws after : List Float) (n rank r : ℕ) (low high : Float) (b u : ℕ)
   all_fit = each_take ws n fit
 
   below-low : b ≡ below (key_of low) first
-  below-low = counts.below_is ∙ count-below-is ws n (key_of low) room
+  below-low = counts.below_is ∙ count-below-is first (key_of low)
 
   below-high : u ≡ below (key_of high) first
-  below-high = counts.upto_is ∙ count-below-is ws n (key_of high) room
+  below-high = counts.upto_is ∙ count-below-is first (key_of high)
 
   fewer : r ≤ n
   fewer = omega (arith, kept-fewer (within low high) first, length-take-le n ws room)
 
-  among : (q : ℕ) → count_below after r q ≡ below q (kept (within low high) first)
-  among q = count-below-is after r q (omega (arith, fewer)) ∙ ap (below q) here
+  abbrev after : List Float
+  after = moved ++ drop n ws
+
+  here : take r after ≡ filter (within low high) first
+  here = take-append-le r moved (drop n ws) (omega (arith, kept-fewer (within low high) first)) ∙ front
+
+  room-left : r ≤ length after
+  room-left = omega (arith, length-append moved (drop n ws), kept-fewer (within low high) first)
+
+  among : (q : ℕ) → count_below (take r after) q ≡ below q (filter (within low high) first)
+  among q = count-below-is (take r after) q ∙ ap (below q) here
 
   abbrev under : below (key_of low) first ≤ rank
   under = omega (arith, below-low)
@@ -162,11 +147,11 @@ module _ (ws after : List Float) (n rank r : ℕ) (low high : Float) (b u : ℕ)
       let end : key_of low + (key_of high - key_of low) ≡ key_of high = omega arith in
       record {
         inside = omega (arith, place_inside low high lo hi counts.low_fits counts.high_fits all_fit rank under over, below-low);
-        room = omega (arith, fewer);
+        room = room-left;
         some = omega arith;
         keys = omega (arith, key-lt binary32 high);
         least = omega (arith, among (key_of low), none_below low high lo hi counts.low_fits counts.high_fits all_fit rank under over);
-        most = subst (λ (q : ℕ). rank - b < count_below after r q) (sym end) (omega (arith, among (key_of high), place-under low high lo hi counts.low_fits counts.high_fits all_fit rank under over, below-low));
+        most = subst (λ (q : ℕ). rank - b < count_below (take r after) q) (sym end) (omega (arith, among (key_of high), place-under low high lo hi counts.low_fits counts.high_fits all_fit rank under over, below-low));
       }
 
   pub narrowed-among : Narrowed ws n rank after r (rank - b)
@@ -178,27 +163,20 @@ module _ (ws after : List Float) (n rank r : ℕ) (low high : Float) (b u : ℕ)
         fewer = fewer;
         same_key =
             ap (λ (l : List Float). key_of (get_or (sorted_of l) (rank - b) nan)) here
-            ∙ ap (λ (k : ℕ). key_of (get_or (sorted_of (kept (within low high) first)) (rank - k) nan)) below-low
+            ∙ ap (λ (k : ℕ). key_of (get_or (sorted_of (filter (within low high) first)) (rank - k) nan)) below-low
             ∙ kept-key low high lo hi counts.low_fits counts.high_fits all_fit rank under over;
-        same_rest = rest;
       }
 
 -- bounds with a rank between their counts are apart
-pub counted-apart : {ws : List Float} {n rank : ℕ} {low high : Float} {b u : ℕ} → n ≤ length ws → Counted ws n low high b u → b ≤ rank → rank < u → order_key binary32 low < order_key binary32 high
-counted-apart {ws} {n} {rank} {low} {high} {b} {u} room counts least most = elim (lt-or-ge (key_of low) (key_of high)) [
+pub counted-apart : {xs : List Float} {rank : ℕ} {low high : Float} {b u : ℕ} → Counted xs low high b u → b ≤ rank → rank < u → order_key binary32 low < order_key binary32 high
+counted-apart {xs} {rank} {low} {high} {b} {u} counts least most = elim (lt-or-ge (key_of low) (key_of high)) [
   | inl d ↦ d
-  | inr d ↦ let grows = below-mono key_of (key_of high) (key_of low) d (take n ws) in omega (arith, counts.below_is, counts.upto_is, count-below-is ws n (key_of low) room, count-below-is ws n (key_of high) room)
+  | inr d ↦ let grows = below-mono key_of (key_of high) (key_of low) d xs in omega (arith, counts.below_is, counts.upto_is, count-below-is xs (key_of low), count-below-is xs (key_of high))
 ]
 
 -- ---- one narrowing after another
 pub narrowed-same : (ws : List Float) (n rank : ℕ) → Narrowed ws n rank ws n rank
-narrowed-same ws n rank = record { fewer = omega arith; same_key = refl; same_rest = refl }
+narrowed-same ws n rank = record { fewer = omega arith; same_key = refl }
 
 pub narrowed-more : {before now after : List Float} {n rank m place k spot : ℕ} → Narrowed before n rank now m place → Narrowed now m place after k spot → Narrowed before n rank after k spot
-narrowed-more {before} {now} {after} {n} {rank} {m} {place} {k} {spot} a b =
-    let beyond : n ≡ m + (n - m) = omega (arith, a.fewer) in
-    record {
-      fewer = omega (arith, a.fewer, b.fewer);
-      same_key = b.same_key ∙ a.same_key;
-      same_rest = ap (λ (i : ℕ). drop i after) beyond ∙ sym (drop-drop (n - m) m after) ∙ ap (drop (n - m)) b.same_rest ∙ drop-drop (n - m) m now ∙ ap (λ (i : ℕ). drop i now) (sym beyond) ∙ a.same_rest;
-    }
+narrowed-more a b = record { fewer = omega (arith, a.fewer, b.fewer); same_key = b.same_key ∙ a.same_key }

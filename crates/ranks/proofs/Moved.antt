@@ -1,26 +1,25 @@
 -- Values that pass a test move to the front of their slice: those kept stand first, and those not seen yet where they stood.
 use mathlib.Core.Path.{◌≡◌, refl, sym, ap, ◌∙◌}
-use mathlib.Core.Bool.{Bool, true, false}
+use mathlib.Core.Bool.{Bool, true, false, cond}
 use mathlib.Core.List.{List, [], ◌∷◌, ◌++◌, append-nil}
 use Prim.Native.Nat.{ℕ, ◌+◌, ◌≤◌, ◌<◌}
 use native.Mathlib.Nat.{add-zero}
 use native.Mathlib.Numerals.{add-one}
 use native.Mathlib.Omega.{arith}
 use lib.ListN.{length, get_or, set, take, drop, length-set}
-use lib.Seq.{take-suc, take-suc-set, take-set-le, drop-set-lt, get_or-drop, drop-drop, length-take-le}
+use lib.Seq.{take_all, take-suc-set, take-set-le, drop-set-lt, get_or-drop, drop-drop}
 use lib.Ieee.{Float, nan}
-use Rattle.ranks.specs.inside.Narrow.{kept}
-use Rattle.ranks.proofs.Kept.{kept_append, kept-one, kept-none}
+use Rattle.std.specs.Prelude.{filter}
+use Rattle.std.proofs.lemmas.List.Elements.{filter_more}
 
 -- after i values, of which c are kept
 pub record Moved (test : Float → Bool) (m₀ m : List Float) (i c : ℕ) : Type 0 where
   pub long : length m ≡ length m₀
   pub fewer : c ≤ i
-  pub here : take c m ≡ kept test (take i m₀)
+  pub here : take c m ≡ filter test (take i m₀)
   pub rest : drop i m ≡ drop i m₀
 
 pub moved-start : (test : Float → Bool) (m : List Float) → Moved test m m 0 0
-unfolding kept
 moved-start test m = record { long = refl; fewer = omega arith; here = refl; rest = refl }
 
 module _ {test : Float → Bool} {m₀ m : List Float} {i c : ℕ} (now : Moved test m₀ m i c) (inside : i < length m₀) where
@@ -30,12 +29,11 @@ module _ {test : Float → Bool} {m₀ m : List Float} {i c : ℕ} (now : Moved 
   rest_more : (x : Float) → drop (i + 1) (set m c x) ≡ drop (i + 1) m₀
   rest_more x = drop-set-lt (i + 1) m c x (omega (arith, now.fewer)) ∙ sym (drop-drop 1 i m) ∙ ap (drop 1) now.rest ∙ drop-drop 1 i m₀
 
-  kept_more : kept test (take (i + 1) m₀) ≡ kept test (take i m₀) ++ kept test (get_or m i nan ∷ [])
-  kept_more =
-      ap (λ (k : ℕ). kept test (take k m₀)) (add-one i)
-      ∙ ap (kept test) (take-suc m₀ i nan inside)
-      ∙ kept_append test (take i m₀) (get_or m₀ i nan ∷ [])
-      ∙ ap (λ (x : Float). kept test (take i m₀) ++ kept test (x ∷ [])) (sym same-value)
+  kept_more : {t : Bool} → test (get_or m i nan) ≡ t → filter test (take (i + 1) m₀) ≡ filter test (take i m₀) ++ cond t (get_or m i nan ∷ []) []
+  kept_more e =
+      filter_more test m₀ i nan inside
+      ∙ ap (λ (x : Float). filter test (take i m₀) ++ cond (test x) (x ∷ []) []) (sym same-value)
+      ∙ ap (λ (t : Bool). filter test (take i m₀) ++ cond t (get_or m i nan ∷ []) []) e
 
   pub moved-kept : test (get_or m i nan) ≡ true → Moved test m₀ (set m c (get_or m i nan)) (i + 1) (c + 1)
   moved-kept e =
@@ -47,8 +45,7 @@ module _ {test : Float → Bool} {m₀ m : List Float} {i c : ℕ} (now : Moved 
             ap (λ (k : ℕ). take k (set m c x)) (add-one c)
             ∙ take-suc-set m c x (omega (arith, now.fewer, now.long))
             ∙ ap (λ (l : List Float). l ++ (x ∷ [])) now.here
-            ∙ ap (λ (l : List Float). kept test (take i m₀) ++ l) (sym (kept-one test x e))
-            ∙ sym kept_more;
+            ∙ sym (kept_more e);
         rest = rest_more x;
       }
 
@@ -58,16 +55,9 @@ module _ {test : Float → Bool} {m₀ m : List Float} {i c : ℕ} (now : Moved 
       record {
         long = length-set m c x ∙ now.long;
         fewer = omega (arith, now.fewer);
-        here =
-            take-set-le c m c x (omega arith)
-            ∙ now.here
-            ∙ sym (append-nil (kept test (take i m₀)))
-            ∙ ap (λ (l : List Float). kept test (take i m₀) ++ l) (sym (kept-none test x e))
-            ∙ sym kept_more;
+        here = take-set-le c m c x (omega arith) ∙ now.here ∙ sym (append-nil (filter test (take i m₀))) ∙ sym (kept_more e);
         rest = rest_more x;
       }
 
-pub moved-end : (test : Float → Bool) (m₀ m : List Float) (i c n : ℕ) → Moved test m₀ m i c → i ≡ n → n ≤ length m₀ → (c ≡ length (kept test (take n m₀))) × (take c m ≡ kept test (take n m₀)) × (drop n m ≡ drop n m₀)
-moved-end test m₀ m i c n now e room =
-    let here : take c m ≡ kept test (take n m₀) = now.here ∙ ap (λ (k : ℕ). kept test (take k m₀)) e in
-    (sym (length-take-le c m (omega (arith, now.fewer, now.long))) ∙ ap length here, here, ap (λ (k : ℕ). drop k m) (sym e) ∙ now.rest ∙ ap (λ (k : ℕ). drop k m₀) e)
+pub moved-end : (test : Float → Bool) (m₀ m : List Float) (i c : ℕ) → Moved test m₀ m i c → length m₀ ≤ i → take c m ≡ filter test m₀
+moved-end test m₀ m i c now e = now.here ∙ ap (filter test) (take_all i m₀ e)

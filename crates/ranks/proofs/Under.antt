@@ -3,24 +3,23 @@ use mathlib.Core.Path.{◌≡◌, refl, sym, ap, ◌∙◌, subst}
 use mathlib.Core.Logic.{◌⊎◌, inl, inr}
 use mathlib.Core.Bool.{Bool, true, false, not, cond}
 use mathlib.Core.List.{List}
-use Prim.Native.Nat.{ℕ, zero, suc, ◌+◌}
+use Prim.Native.Nat.{ℕ, ◌+◌}
 use native.Mathlib.Nat.{not-le_of_lt}
-use native.Mathlib.Numerals.{add-one}
 use lib.Dec.{T, ltb, leb, leb→le, nleb→lt, lt→ltb, ltb→lt}
-use lib.ListN.{get_or}
 use lib.Ieee.{Float, nan, binary32, is_nan, lt}
 use lib.Ieee.Bits.{is_false}
 use Rattle.laws.specs.Order.{total_order, order_key}
-use Rattle.laws.specs.Turns.{turns}
 use Rattle.laws.specs.Values.{negative, plus_zero, clear}
 use Rattle.laws.proofs.Cases.{passed-or-failed, same_test, or_split}
 use Rattle.laws.proofs.Order.{lt_not_le, lt_of_le_of_lt, lt→le, le_left, apart-le}
 use Rattle.laws.proofs.Zero.{plus_zero-least, above-clear}
 use Rattle.laws.proofs.Signs.{kind, clear-is, negative-is}
-use Rattle.laws.proofs.Turns.{turns-last}
+use Rattle.std.specs.Prelude.{count_by}
+use Rattle.std.proofs.lemmas.List.Sums.{sum_by-cons}
 use Rattle.laws.proofs.Total.{total-order}
-use Rattle.ranks.specs.inside.Search.{count_turn, count_below}
-use Rattle.ranks.specs.inside.Narrow.{divides, under_turn, count_under}
+use Rattle.ranks.specs.inside.Search.{count_below}
+use Rattle.ranks.specs.inside.Narrow.{divides, count_under}
+use Rattle.ranks.proofs.Count.{Each, each_none, each_more}
 use Rattle.ranks.proofs.Sorted.{InSingle}
 
 -- ---- a bound below zero has the sign minus
@@ -67,13 +66,11 @@ module _ (b : Float) (d : T (divides b)) (g : InSingle b) where
         | inr n ↦ absurd (not-le_of_lt (ltb→lt (order_key binary32 x) (order_key binary32 b) l) (leb→le (order_key binary32 b) (order_key binary32 x) (subst T (sym (bound-before b x (or_split (lt b plus_zero) (lt plus_zero b) d) (kind x) (is_false (lt x b) n)) ∙ by_key) tt)))
       ]
 
-  pub count-under-is : (ws : List Float) → ((i : ℕ) → InSingle (get_or ws i nan)) → (n : ℕ) → count_under ws n b ≡ count_below ws n (order_key binary32 b)
-  unfolding count_under count_below turns
-  count-under-is ws fit zero = refl
-  count-under-is ws fit (suc n) =
-      ap (λ (k : ℕ). turns (under_turn ws b) k 0 0) (sym (add-one n))
-      ∙ turns-last (under_turn ws b) n 0
-      ∙ ap (under_turn ws b n) (count-under-is ws fit n)
-      ∙ ap (λ (t : Bool). cond t (count_below ws n (order_key binary32 b) + 1) (count_below ws n (order_key binary32 b))) (under-key (get_or ws n nan) (fit n))
-      ∙ sym (turns-last (count_turn ws (order_key binary32 b)) n 0)
-      ∙ ap (λ (k : ℕ). turns (count_turn ws (order_key binary32 b)) k 0 0) (add-one n)
+  pub count-under-is : {ws : List Float} → Each InSingle ws → count_under ws b ≡ count_below ws (order_key binary32 b)
+  unfolding count_under count_below
+  count-under-is each_none = refl
+  count-under-is (each_more {x = x} {xs = xs} fit fits) =
+      sum_by-cons (λ (y : Float). cond (lt y b) 1 0) x xs
+      ∙ ap (λ (t : Bool). cond t 1 0 + count_by (λ (y : Float). lt y b) xs) (under-key x fit)
+      ∙ ap (λ (n : ℕ). cond (ltb (order_key binary32 x) (order_key binary32 b)) 1 0 + n) (count-under-is fits)
+      ∙ sym (sum_by-cons (λ (y : Float). cond (ltb (order_key binary32 y) (order_key binary32 b)) 1 0) x xs)

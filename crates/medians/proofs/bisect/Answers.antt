@@ -7,8 +7,8 @@ use Rattle.medians.proofs.bisect.Goals as goal
 pub loop-width-init : goal.loop-width-init
 loop-width-init c = c.requires
 
-pub loop-width-preserved-then-count_below-rank : goal.loop-width-preserved-then-count_below-rank
-loop-width-preserved-then-count_below-rank c = upper-part _ _ _ _ _ _ c.loop-width.invariant (omega arith) (omega arith) (omega (arith, c.count_below.ensures))
+pub loop-width-preserved-then-count_below-sought : goal.loop-width-preserved-then-count_below-sought
+loop-width-preserved-then-count_below-sought c = upper-part _ _ _ _ _ _ c.loop-width.invariant (omega arith) (omega arith) (omega (arith, c.count_below.ensures))
 
 pub loop-width-preserved : goal.loop-width-preserved
 loop-width-preserved c = lower-part _ _ _ _ _ _ c.loop-width.invariant (omega arith) (omega arith) (omega (arith, c.count_below.ensures))

@@ -2,4 +2,4 @@
 use Rattle.replayed.proofs.same_value.Goals as goal
 
 pub returns : goal.returns
-returns c = rw (c.order_key.ensures, c.order_key-2.ensures)
+returns c = rw (c.order_key.ensures.key, c.order_key-2.ensures.key)

@@ -7,6 +7,7 @@ use lib.ListN.{take}
 use Rattle.laws.proofs.Front.{filled-start, filled_more, filled-whole}
 use Rattle.medians.specs.Median.{median_of}
 use Rattle.onsets.specs.Weighted.{weighted_medians}
+use Rattle.medians.proofs.Zeroed.{zeroed-first}
 use Rattle.onsets.proofs.Emptied.{emptied-start, emptied-again, written_back}
 use Rattle.onsets.proofs.weighted.medians_by_weights.Goals as goal
 
@@ -14,7 +15,9 @@ pub loop-bin-init : goal.loop-bin-init
 loop-bin-init c = (omega arith, emptied-start _ _, filled-start _ _)
 
 pub loop-bin-preserved : goal.loop-bin-preserved
-loop-bin-preserved c = (omega arith, emptied-again _ c.loop-bin.invariant.1 (omega arith) c.weigh_bin.ensures c.select.ensures.1, rw (c.select.ensures.0 ∙ ap (λ (m : List Float). median_of (take c.args.count m)) c.weigh_bin.ensures ∙ ap median_of (written_back _ c.args.count _)) (filled_more _ _ _ c.loop-bin.bin c.loop-bin.invariant.2 (omega arith)))
+loop-bin-preserved c =
+    let median = c.select.ensures.median ∙ ap (λ (m : List Float). median_of (take c.args.count m)) c.weigh_bin.ensures ∙ ap median_of (written_back _ c.args.count _) in
+    (omega arith, emptied-again _ c.loop-bin.invariant.1 (omega arith) c.weigh_bin.ensures (zeroed-first _ (omega arith) c.select.ensures.zeroed), rw median (filled_more _ _ _ c.loop-bin.bin c.loop-bin.invariant.2 (omega arith)))
 
 pub returns : goal.returns
 unfolding weighted_medians

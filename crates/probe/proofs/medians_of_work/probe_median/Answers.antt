@@ -7,6 +7,8 @@ use native.Mathlib.Omega.{arith}
 use Prim.Native.Nat.{ℕ, ◌<◌, ◌≤◌}
 use lib.Dec.{eqb, ltb}
 use lib.ListN.{length}
+use lib.Seq.{length-take-le}
+use Rattle.medians.proofs.Zeroed.{zeroed-first}
 use lib.Ieee.{of_bits}
 use Rattle.laws.proofs.Table.{none_of}
 use Rattle.probe.specs.Medians.{unfit}
@@ -23,8 +25,15 @@ pub returns-then-count-work : goal.returns-then-count-work
 unfolding of_bits
 returns-then-count-work c = (rw c.if-count-work.true refl, rw c.if-count-work.true refl)
 
+pub slice_bounds-select-end : goal.slice_bounds-select-end
+slice_bounds-select-end c = (fit c.args.count (length c.args.work.now) c.if-count-work.false).1
+
 pub select-requires : goal.select-requires
-select-requires c = fit c.args.count (length c.args.work.now) c.if-count-work.false
+select-requires c =
+    let here = fit c.args.count (length c.args.work.now) c.if-count-work.false in
+    omega (arith, here, length-take-le c.args.count c.args.work.now here.1)
 
 pub returns : goal.returns
-returns c = (rw c.if-count-work.false c.select.ensures.0, rw c.if-count-work.false c.select.ensures.1)
+returns c =
+    let here = fit c.args.count (length c.args.work.now) c.if-count-work.false in
+    (rw c.if-count-work.false c.select.ensures.median, rw c.if-count-work.false (zeroed-first _ here.1 c.select.ensures.zeroed))

@@ -1,19 +1,21 @@
 -- Bounds that divide are counted by their keys.
-use mathlib.Core.Path.{sym, subst, ◌∙◌}
-use lib.Dec.{T}
+use mathlib.Core.Path.{◌∙◌}
+use lib.Ieee.{nan}
+use Rattle.ranks.proofs.Count.{each_all}
 use Rattle.ranks.proofs.Under.{count-under-is}
 use Rattle.ranks.proofs.narrowing.counted.Goals as goal
 
 pub returns : goal.returns
 returns c =
-    let fit = c.shared_slice_known-1.given in
-    let low_fits = subst T (sym c.well_formed.1.1.0.1) tt in
-    let high_fits = subst T (sym c.well_formed.1.1.1.0.1) tt in
+    let pivots = c.args.pivots in
+    let low = c.count_under.ensures in
+    let high = c.count_under-2.ensures in
+    let fit = each_all c.args.values.now nan c.type_inv.values in
     record {
-      low_divides = c.requires.2;
-      high_divides = c.requires.3;
-      low_fits = low_fits;
-      high_fits = high_fits;
-      below_is = c.count_under-below.ensures ∙ count-under-is c.args.low c.requires.2 low_fits c.args.work.now fit c.args.left;
-      upto_is = c.count_under-upto.ensures ∙ count-under-is c.args.high c.requires.3 high_fits c.args.work.now fit c.args.left;
+      low_divides = pivots.low_divides;
+      high_divides = pivots.high_divides;
+      low_fits = low.held;
+      high_fits = high.held;
+      below_is = low.under ∙ count-under-is pivots.low pivots.low_divides low.held fit;
+      upto_is = high.under ∙ count-under-is pivots.high pivots.high_divides high.held fit;
     }

@@ -5,16 +5,16 @@ use Rattle.ranks.proofs.narrowing.narrow.Goals as goal
 
 pub overflow_sub-result-2 : goal.overflow_sub-result-2
 overflow_sub-result-2 c =
-    let apart = counted-apart c.requires.0.room c.stretch_around-stretch.ensures c.if-rank-stretch.false c.if-stretch-rank.false in
-    omega (arith, apart, c.order_key.ensures, c.order_key-low.ensures)
+    let apart = counted-apart c.stretch_around-stretch.ensures c.if-sought-stretch.false c.if-stretch-sought.false in
+    omega (arith, apart, c.order_key.ensures.key, c.order_key-low.ensures.key)
 
-pub returns : goal.returns
-returns c =
-    let fit = c.slice_known-1.given in
-    let here = c.keep_within-kept.ensures in
-    let long = c.work-1.given in
-    let counts = c.stretch_around-stretch.ensures in
-    rw (c.order_key.ensures, c.order_key-low.ensures) (
-      sought-among c.args.work.now _ _ _ _ _ _ _ _ fit c.requires.0.room counts c.if-rank-stretch.false c.if-stretch-rank.false long here.0 here.1 here.2,
-      narrowed-among c.args.work.now _ _ _ _ _ _ _ _ fit c.requires.0.room counts c.if-rank-stretch.false c.if-stretch-rank.false long here.0 here.1 here.2,
-    )
+pub returns-clause-sought : goal.returns-clause-sought
+returns-clause-sought c =
+    let kept = c.keep_within-left in
+    rw (c.order_key.ensures.key, c.order_key-low.ensures.key)
+    (sought-among c.args.work.now _ _ _ _ _ _ _ _ c.slice_known-1.given c.requires.sought.room c.stretch_around-stretch.ensures c.if-sought-stretch.false c.if-stretch-sought.false kept.auto.values kept.ensures.many kept.ensures.front)
+
+pub returns-clause-narrowed : goal.returns-clause-narrowed
+returns-clause-narrowed c =
+    let kept = c.keep_within-left in
+    narrowed-among c.args.work.now _ _ _ _ _ _ _ _ c.slice_known-1.given c.requires.sought.room c.stretch_around-stretch.ensures c.if-sought-stretch.false c.if-stretch-sought.false kept.auto.values kept.ensures.many kept.ensures.front
