@@ -8,6 +8,9 @@ ghost use Rattle.onsets.specs.Weighted.{weighted_at, weighted_medians};
 use crate::weights::{weight_at, write_weights};
 use medians::select;
 
+// How many weights are kept for the twelve bins: those of twelve minutes at the usual settings.
+const KEPT: usize = 16384;
+
 // The onset weight of frame j, from the weights as far as they go.
 fn weight_from(weights: &[f32], energies: &[f32], j: usize) -> f32
     requires { (j < length energies.now) × (weights.now ≡ list (weight_at energies.now) (length weights.now)) }
@@ -31,10 +34,8 @@ fn weigh_bin(
     requires { (bin < 12) × (count ≤ length frames.now) × (count ≤ length energies.now) × (count ≤ length work.old) × (weights.now ≡ list (weight_at energies.now) (length weights.now)) }
     ensures { work.new ≡ front (list (weighted_at frames.now energies.now bin) count) work.old }
 {
-    let mut j = 0;
-    while j < count {
+    for j in 0..count {
         work[j] = frames[j][bin] * weight_from(weights, energies, j);
-        j += 1;
     }
 }
 
@@ -50,20 +51,11 @@ fn medians_by_weights(
     ensures { (result ≡ weighted_medians frames.now energies.now count) × (work.new ≡ front (replicate count plus_zero) work.old) }
 {
     let mut chroma = [0.0; 12];
-    let mut bin = 0;
-    while bin < 12 {
+    for bin in 0..12 {
         weigh_bin(frames, energies, weights, bin, count, work);
         chroma[bin] = select(&mut work[..count]);
-        bin += 1;
     }
     chroma
-}
-
-// How many weights are kept for the twelve bins: those of twelve minutes at the usual settings.
-fn weights_kept(count: usize) -> usize
-    ensures { (result ≤ count) × (result ≤ 16384) }
-{
-    if count < 16384 { count } else { 16384 }
 }
 
 // Every bin's median over the first `count` frames; the work numbers used end as +0.
@@ -76,8 +68,8 @@ pub fn weighted_medians(
     requires { (0 < count) × (count ≤ length frames.now) × (count ≤ length energies.now) × (count ≤ length work.old) }
     ensures { (result ≡ weighted_medians frames.now energies.now count) × (work.new ≡ front (replicate count plus_zero) work.old) }
 {
-    let kept = weights_kept(count);
-    let mut room = [0.0; 16384];
+    let mut room = [0.0; KEPT];
+    let kept = count.min(KEPT);
     write_weights(energies, kept, &mut room);
     medians_by_weights(frames, energies, &room[..kept], count, work)
 }

@@ -50,11 +50,9 @@ pub fn write_weights(energies: &[f32], count: usize, weights: &mut [f32])
     ensures { weights.new ≡ front (list (weight_at energies.now) count) weights.old }
 {
     let mut low = 0.0;
-    let mut j = 0;
-    while j < count {
+    for j in 0..count {
         let high = square_root(energies[j]);
         weights[j] = weight_by_roots(j, low, high);
         low = high;
-        j += 1;
     }
 }

@@ -12,13 +12,13 @@ use Rattle.onsets.proofs.Emptied.{emptied-start, emptied-again, written_back}
 use Rattle.onsets.proofs.weighted.medians_by_weights.Goals as goal
 
 pub loop-bin-init : goal.loop-bin-init
-loop-bin-init c = (omega arith, emptied-start _ _, filled-start _ _)
+loop-bin-init c = (emptied-start _ _, filled-start _ _)
 
 pub loop-bin-preserved : goal.loop-bin-preserved
 loop-bin-preserved c =
     let median = c.select.ensures.median ∙ ap (λ (m : List Float). median_of (take c.args.count m)) c.weigh_bin.ensures ∙ ap median_of (written_back _ c.args.count _) in
-    (omega arith, emptied-again _ c.loop-bin.invariant.1 (omega arith) c.weigh_bin.ensures (zeroed-first _ (omega arith) c.select.ensures.zeroed), rw median (filled_more _ _ _ c.loop-bin.bin c.loop-bin.invariant.2 (omega arith)))
+    (emptied-again _ c.loop-bin.invariant.0 (omega arith) c.weigh_bin.ensures (zeroed-first _ (omega arith) c.select.ensures.zeroed), rw median (filled_more _ _ _ c.loop-bin.bin c.loop-bin.invariant.1 (omega arith)))
 
 pub returns : goal.returns
 unfolding weighted_medians
-returns c = (filled-whole _ _ _ c.loop-bin.bin 12 c.loop-bin.invariant.2 (omega arith) refl, c.loop-bin.invariant.1.ended (omega arith))
+returns c = (filled-whole _ _ _ c.loop-bin.bin 12 c.loop-bin.invariant.1 (omega arith) refl, c.loop-bin.invariant.0.ended (omega arith))

@@ -1,5 +1,5 @@
 -- A bin a turn; the work numbers end zeroed each time.
-use Prim.Native.Nat.{ℕ, ◌≤◌, ◌-◌}
+use Prim.Native.Nat.{ℕ}
 use Rattle.laws.specs.Front.{list}
 use Rattle.laws.proofs.Front.{Filled}
 use Rattle.medians.specs.Median.{median_of}
@@ -8,7 +8,4 @@ use Rattle.onsets.proofs.Emptied.{Emptied}
 use Rattle.onsets.proofs.weighted.medians_by_weights.Given as goal
 
 abbrev pub invariant-loop-bin : goal.invariant-loop-bin
-invariant-loop-bin l = (l.bin ≤ 12) × Emptied l.count l.initial.work l.work l.bin × Filled (λ (k : ℕ). median_of (list (weighted_at l.frames l.energies k) l.count)) l.initial.chroma l.chroma l.bin
-
-abbrev pub decreases-loop-bin : goal.decreases-loop-bin
-decreases-loop-bin l = 12 - l.bin
+invariant-loop-bin l = Emptied l.count l.initial.work l.work l.bin × Filled (λ (k : ℕ). median_of (list (weighted_at l.frames l.energies k) l.count)) l.initial.chroma l.chroma l.bin

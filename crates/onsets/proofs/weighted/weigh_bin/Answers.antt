@@ -5,17 +5,17 @@ use Rattle.onsets.specs.Weighted.{weighted_at}
 use Rattle.onsets.proofs.weighted.weigh_bin.Goals as goal
 
 pub loop-j-init : goal.loop-j-init
-loop-j-init c = (omega arith, filled-start _ _)
+loop-j-init c = filled-start _ _
 
 pub bounds-work-j : goal.bounds-work-j
-bounds-work-j c = let l = c.loop-j.invariant.1.long in omega arith
+bounds-work-j c = let l = c.loop-j.invariant.long in omega arith
 
 pub loop-j-preserved : goal.loop-j-preserved
 unfolding weighted_at
-loop-j-preserved c = let turn = c.loop-j in (omega arith, rw c.weight_from.ensures (filled_more _ _ _ turn.j turn.invariant.1 (omega arith)))
+loop-j-preserved c = rw c.weight_from.ensures (filled_more _ _ _ c.loop-j.j c.loop-j.invariant (omega arith))
 
 pub shape_of-work : goal.shape_of-work
-shape_of-work c = c.loop-j.invariant.1.long
+shape_of-work c = c.loop-j.invariant.long
 
 pub returns : goal.returns
-returns c = filled-to _ _ _ c.loop-j.j c.args.count c.loop-j.invariant.1 (omega arith)
+returns c = filled-to _ _ _ c.loop-j.j c.args.count c.loop-j.invariant (omega arith)

@@ -1,11 +1,7 @@
 -- The work numbers are written from the front, a frame a turn.
-use Prim.Native.Nat.{◌≤◌, ◌-◌}
 use Rattle.laws.proofs.Front.{Filled}
 use Rattle.onsets.specs.Weighted.{weighted_at}
 use Rattle.onsets.proofs.weighted.weigh_bin.Given as goal
 
 abbrev pub invariant-loop-j : goal.invariant-loop-j
-invariant-loop-j l = (l.j ≤ l.count) × Filled (weighted_at l.frames l.energies l.bin) l.initial.work l.work l.j
-
-abbrev pub decreases-loop-j : goal.decreases-loop-j
-decreases-loop-j l = l.count - l.j
+invariant-loop-j l = Filled (weighted_at l.frames l.energies l.bin) l.initial.work l.work l.j

@@ -1,1 +1,0 @@
--- The only refusal, or the callees' definitions, put together.
