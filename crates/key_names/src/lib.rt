@@ -48,19 +48,16 @@ fn tonic_length(tonic: Tonic) -> usize
 pub fn name_length(key: Key) -> usize
     ensures { result ≡ length (name_of key) }
 {
-    let tonic = key.tonic;
-    tonic_length(tonic) + 6
+    tonic_length(key.tonic) + 6
 }
 
 // Byte i of a key's name, and 0 behind its end.
 fn name_byte(key: Key, i: usize) -> u8
     ensures { result ≡ get_or (name_of key) i 0 }
 {
-    let tonic = key.tonic;
-    let mode = key.mode;
-    let letters = tonic_letters(tonic);
-    let word = mode_letters(mode);
-    let blank = tonic_length(tonic);
+    let letters = tonic_letters(key.tonic);
+    let word = mode_letters(key.mode);
+    let blank = tonic_length(key.tonic);
     if i < blank {
         return letters[i];
     }
@@ -77,10 +74,8 @@ pub fn write_name(key: Key, bytes: &mut [u8]) -> usize
     ensures { (result ≡ length (name_of key)) × (bytes.new ≡ front (name_of key) bytes.old) }
 {
     let count = name_length(key);
-    let mut i = 0;
-    while i < count {
+    for i in 0..count {
         bytes[i] = name_byte(key, i);
-        i += 1;
     }
     count
 }

@@ -1,12 +1,9 @@
 -- `bytes` is written from the front, a byte of the name a turn.
-use Prim.Native.Nat.{ℕ, ◌≤◌, ◌-◌}
+use Prim.Native.Nat.{ℕ}
 use lib.ListN.{get_or}
 use Rattle.laws.proofs.Front.{Filled}
 use Rattle.key_names.specs.Names.{name_of}
 use Rattle.key_names.proofs.write_name.Given as goal
 
 abbrev pub invariant-loop-i : goal.invariant-loop-i
-invariant-loop-i l = (l.i ≤ l.count) × Filled (λ (k : ℕ). get_or (name_of l.key) k 0) l.initial.bytes l.bytes l.i
-
-abbrev pub decreases-loop-i : goal.decreases-loop-i
-decreases-loop-i l = l.count - l.i
+invariant-loop-i l = Filled (λ (k : ℕ). get_or (name_of l.key) k 0) l.initial.bytes l.bytes l.i
