@@ -12,6 +12,7 @@ use lib.Ieee.Fits.{and_l, and_r, and_i}
 use borrow.Author.Tests.{eq-eqb, ne_eqb, eqb-true}
 use lib.Ieee.Bits.{is_true, is_false}
 use lib.Ieee.Positive.{positive, above, above_of_le}
+use Rattle.std.specs.Prelude.{Option, None, Some}
 use Rattle.laws.specs.Order.{total_order}
 use Rattle.laws.specs.Lists.{passing}
 use Rattle.laws.specs.Leader.{without, keys_met, Standing, nobody, leads}
@@ -24,10 +25,9 @@ use Rattle.laws.proofs.Total.{total-order}
 use Rattle.keys.specs.Numbers.{key_number}
 use Rattle.timeline.specs.Segments.{segment_at}
 use Rattle.timeline.specs.declared.segment.Segment.{Segment}
-use Rattle.alternates.specs.Alternate.{instant, held_seconds, lasting, total_of, lasts_in, seconds_of, lasting_keys, rival_of, coverage_of, lacks, named_unless_lacking, alternate_of}
+use Rattle.alternates.specs.Alternate.{instant, held_seconds, lasting, total_of, lasts_in, seconds_of, lasting_keys, rival_of, coverage_of, lacks, alternate, named_unless_lacking, alternate_of}
 use Rattle.alternates.specs.Named.{Reaches, Rightly, NamedExactly}
 use Rattle.alternates.specs.declared.alternate.Alternate.{Alternate}
-use Rattle.alternates.specs.declared.alternate.Alternate.TheVariants.{Nobody, Named}
 use Rattle.longest.proofs.Lengths.{InFormat, order-ranks}
 use Rattle.alternates.proofs.Sums.{total-is, part_of, seconds-amount}
 
@@ -57,8 +57,8 @@ by_value x y c d h =
     not-lt→le y x (clear→ordered y d) (clear→ordered x c)
     (not_T (lt y x) (λ less. subst T ((total-order binary64).by_value y x less).1 h))
 
-nobody-named : {key : ℕ} {coverage : Float} → Nobody ≡ Named key coverage → ⊥
-nobody-named e = let z : ◌≡◌ {A = ℕ} 0 1 = cc in omega arith
+none-some : {key : ℕ} {coverage : Float} → None ≡ Some (alternate key coverage) → ⊥
+none-some e = let z : ◌≡◌ {A = ℕ} 0 1 = cc in omega arith
 
 -- what a named answer tells: a key leads, and its coverage does not lack
 record Led (threshold total : Float) (s : Standing Float) (key : ℕ) (coverage : Float) : Type 0 where
@@ -67,18 +67,20 @@ record Led (threshold total : Float) (s : Standing Float) (key : ℕ) (coverage 
   enough : lacks threshold (coverage_of total sum) ≡ false
   covers : coverage ≡ coverage_of total sum
 
-led : (threshold total : Float) (s : Standing Float) (key : ℕ) (coverage : Float) → named_unless_lacking threshold total s ≡ Named key coverage → Led threshold total s key coverage
-led threshold total nobody key coverage e = absurd (nobody-named e)
+led : (threshold total : Float) (s : Standing Float) (key : ℕ) (coverage : Float) → named_unless_lacking threshold total s ≡ Some (alternate key coverage) → Led threshold total s key coverage
+led threshold total nobody key coverage e = absurd (none-some e)
 led threshold total (leads k sum) key coverage e = decided (lacks threshold (coverage_of total sum)) refl e
   where
-    decided : (b : Bool) → lacks threshold (coverage_of total sum) ≡ b → cond b Nobody (Named k (coverage_of total sum)) ≡ Named key coverage → Led threshold total (leads k sum) key coverage
-    decided true q e = absurd (nobody-named e)
-    decided false q e = record { sum = sum; leading = cc; enough = q; covers = cc }
+    decided : (b : Bool) → lacks threshold (coverage_of total sum) ≡ b → cond b None (Some (alternate k (coverage_of total sum))) ≡ Some (alternate key coverage) → Led threshold total (leads k sum) key coverage
+    decided true q e = absurd (none-some e)
+    decided false q e =
+        let same : alternate k (coverage_of total sum) ≡ alternate key coverage = cc in
+        record { sum = sum; leading = ap (λ (a : Alternate). leads a.key sum) same; enough = q; covers = sym (ap (λ (a : Alternate). a.coverage) same) }
 
-opened : (a b c : Bool) {x : Alternate} {key : ℕ} {coverage : Float} → cond (a || b) Nobody (cond c Nobody x) ≡ Named key coverage → T (not a) × (x ≡ Named key coverage)
-opened true b c e = absurd (nobody-named e)
-opened false true c e = absurd (nobody-named e)
-opened false false true e = absurd (nobody-named e)
+opened : (a b c : Bool) {x : Option Alternate} {key : ℕ} {coverage : Float} → cond (a || b) None (cond c None x) ≡ Some (alternate key coverage) → T (not a) × (x ≡ Some (alternate key coverage))
+opened true b c e = absurd (none-some e)
+opened false true c e = absurd (none-some e)
+opened false false true e = absurd (none-some e)
 opened false false false e = (tt, e)
 
 -- ---- keys that have a lasting segment
@@ -152,7 +154,7 @@ module _ (reported : ℕ) (segments : List Segment) where
       not_T (le (total_of segments) instant) (λ h. T_not (le (held_seconds s) instant) long (le_trans (held_seconds s) (total_of segments) instant part h))
 
 module _ (reported : ℕ) (threshold : Float) (segments : List Segment) (o : T (ordered threshold)) (p : T (nonneg (total_of segments))) where
-  rightly : (key : ℕ) (coverage : Float) → alternate_of reported threshold segments ≡ Named key coverage → Rightly reported threshold segments key coverage
+  rightly : (key : ℕ) (coverage : Float) → alternate_of reported threshold segments ≡ Some (alternate key coverage) → Rightly reported threshold segments key coverage
   unfolding alternate_of
   rightly key coverage e =
       let shut = opened (le threshold plus_zero) (eqb (length segments) 0) (le (total_of segments) instant) e in
@@ -172,24 +174,24 @@ module _ (reported : ℕ) (threshold : Float) (segments : List Segment) (o : T (
         most = leads-most reported segments threshold key d.sum l;
       }
 
-  somebody : T (lt plus_zero threshold) → (key : ℕ) → Reaches reported threshold segments key → (k : ℕ) × (c : Float) × (alternate_of reported threshold segments ≡ Named k c)
+  somebody : T (lt plus_zero threshold) → (key : ℕ) → Reaches reported threshold segments key → (k : ℕ) × (c : Float) × (alternate_of reported threshold segments ≡ Some (alternate k c))
   unfolding alternate_of
   somebody above key r = found (rival_of reported segments) refl
     where
       long : T (not (le (total_of segments) instant))
       long = above-instant reported segments key r.place r.there r.lasts
 
-      passed : (x : Alternate) → cond (le threshold plus_zero || eqb (length segments) 0) Nobody (cond (le (total_of segments) instant) Nobody x) ≡ x
+      passed : (x : Option Alternate) → cond (le threshold plus_zero || eqb (length segments) 0) None (cond (le (total_of segments) instant) None x) ≡ x
       passed x = rw (is_false (le threshold plus_zero) (not_T (le threshold plus_zero) (λ h. lt_not_le plus_zero threshold above h)), ne_eqb (length segments) 0 (λ none. omega (arith, none, r.there)), is_false (le (total_of segments) instant) long)
 
-      found : (s : Standing Float) → rival_of reported segments ≡ s → (k : ℕ) × (c : Float) × (alternate_of reported threshold segments ≡ Named k c)
+      found : (s : Standing Float) → rival_of reported segments ≡ s → (k : ℕ) × (c : Float) × (alternate_of reported threshold segments ≡ Some (alternate k c))
       found nobody e = absurd (somebody-leads total_order InFormat order-ranks (seconds_of segments) (λ k. (seconds-amount segments k).in_format) (rivals reported segments) key (rival-at reported segments key r.place r.there r.other r.lasts) (unfold rival_of in e))
       found (leads k sum) e =
           let l = leader reported segments k sum e in
           let all = total_of segments in
           let enough : lacks threshold (coverage_of all sum) ≡ false = is_false _ (not_T (lacks threshold (coverage_of all sum)) (λ t.
           subst T r.enough (lacks-mono threshold all (seconds_of segments key) (seconds_of segments k) (positive-total all p long) (seconds-amount segments key).plus (seconds-amount segments k).plus (leads-most reported segments threshold k sum l key r) (subst (λ (x : Float). T (lacks threshold (coverage_of all x))) l.own_amount t)))) in
-          (k, coverage_of all sum, passed _ ∙ ap (named_unless_lacking threshold all) e ∙ ap (λ (b : Bool). cond b Nobody (Named k (coverage_of all sum))) enough)
+          (k, coverage_of all sum, passed _ ∙ ap (named_unless_lacking threshold all) e ∙ ap (λ (b : Bool). cond b None (Some (alternate k (coverage_of all sum)))) enough)
 
 pub named-exactly : NamedExactly
 named-exactly reported threshold segments o p = record { only = rightly reported threshold segments o p; whenever = somebody reported threshold segments o p }

@@ -1,5 +1,5 @@
 -- The alternate key, written from the Rust's `significant_alternate_key`. Definitions only.
-use Rattle.std.specs.Prelude.{ℕ, Bool, not, ◌&&◌, ◌||◌, cond, List, map, length, eqb, Float}
+use Rattle.std.specs.Prelude.{ℕ, Bool, not, ◌&&◌, ◌||◌, cond, List, map, length, eqb, Float, Option, None, Some}
 use Rattle.std.specs.Float.{binary32, binary64}
 use Rattle.std.specs.Float.Ieee.{of_bits, add, div, lt, le}
 use Rattle.laws.specs.Lists.{passing, fold}
@@ -12,7 +12,6 @@ use Rattle.keys.specs.Numbers.{key_number}
 use Rattle.timeline.specs.Segments.{seconds}
 use Rattle.timeline.specs.declared.segment.Segment.{Segment}
 use Rattle.alternates.specs.declared.alternate.Alternate.{Alternate}
-use Rattle.alternates.specs.declared.alternate.Alternate.TheVariants.{Nobody, Named}
 
 -- 2^-52, Rust's f64::EPSILON
 abbrev pub instant : Float
@@ -58,24 +57,28 @@ coverage_of total sum = converted binary32 (div binary64 sum total)
 unfoldable pub lacks : Float → Float → Bool
 lacks threshold coverage = lt (add binary32 coverage epsilon) threshold
 
+-- an alternate, from its parts
+abbrev pub alternate : ℕ → Float → Alternate
+alternate key coverage = record { key = key; coverage = coverage }
+
 -- a key with so many seconds is named unless its coverage lacks
-abbrev pub named_unless_lacking : Float → Float → Standing Float → Alternate
-named_unless_lacking threshold total nobody = Nobody
-named_unless_lacking threshold total (leads key sum) = cond (lacks threshold (coverage_of total sum)) Nobody (Named key (coverage_of total sum))
+abbrev pub named_unless_lacking : Float → Float → Standing Float → Option Alternate
+named_unless_lacking threshold total nobody = None
+named_unless_lacking threshold total (leads key sum) = cond (lacks threshold (coverage_of total sum)) None (Some (alternate key (coverage_of total sum)))
 
 -- a threshold of 0 or less names nobody, nor do segments that last an instant together
-unfoldable pub alternate_of : ℕ → Float → List Segment → Alternate
+unfoldable pub alternate_of : ℕ → Float → List Segment → Option Alternate
 alternate_of reported threshold segments =
-    cond (le threshold plus_zero || eqb (length segments) 0) Nobody
-    (cond (le (total_of segments) instant) Nobody
+    cond (le threshold plus_zero || eqb (length segments) 0) None
+    (cond (le (total_of segments) instant) None
     (named_unless_lacking threshold (total_of segments) (rival_of reported segments)))
 
 -- the answer's key number: 24 where there is no alternate
-abbrev pub alternate_number : Alternate → ℕ
-alternate_number Nobody = 24
-alternate_number (Named key coverage) = key
+abbrev pub alternate_number : Option Alternate → ℕ
+alternate_number None = 24
+alternate_number (Some a) = a.key
 
 -- the answer's coverage: 0 where there is no alternate
-abbrev pub alternate_coverage : Alternate → Float
-alternate_coverage Nobody = plus_zero
-alternate_coverage (Named key coverage) = coverage
+abbrev pub alternate_coverage : Option Alternate → Float
+alternate_coverage None = plus_zero
+alternate_coverage (Some a) = a.coverage

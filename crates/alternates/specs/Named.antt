@@ -1,5 +1,5 @@
 -- Demand 3 on the alternate key: it is named exactly when the coverage rule says. Statements only.
-use Rattle.std.specs.Prelude.{◌≡◌, true, false, ℕ, ◌*◌, ◌^◌, ◌<◌, List, length, T, eqb, Float}
+use Rattle.std.specs.Prelude.{◌≡◌, true, false, ℕ, ◌*◌, ◌^◌, ◌<◌, List, length, T, eqb, Float, Some}
 use Rattle.std.specs.Float.{binary64}
 use Rattle.std.specs.Float.Ieee.{lt, le}
 use Rattle.laws.specs.Values.{plus_zero, ordered, nonneg}
@@ -7,8 +7,7 @@ use Rattle.laws.specs.Convert.{parts}
 use Rattle.timeline.specs.Segments.{segment_at}
 use Rattle.timeline.specs.Tiling.{Tiles}
 use Rattle.timeline.specs.declared.segment.Segment.{Segment}
-use Rattle.alternates.specs.Alternate.{lasts_in, total_of, seconds_of, coverage_of, lacks, alternate_of}
-use Rattle.alternates.specs.declared.alternate.Alternate.TheVariants.{Named}
+use Rattle.alternates.specs.Alternate.{lasts_in, total_of, seconds_of, coverage_of, lacks, alternate, alternate_of}
 
 -- a key other than the reported one reaches the threshold: it has a lasting segment, and its coverage does not lack
 pub record Reaches (reported : ℕ) (threshold : Float) (segments : List Segment) (key : ℕ) : Type 0 where
@@ -27,8 +26,8 @@ pub record Rightly (reported : ℕ) (threshold : Float) (segments : List Segment
 
 -- an alternate is named exactly when the threshold is above zero and some key reaches it
 pub record Exactly (reported : ℕ) (threshold : Float) (segments : List Segment) : Type 0 where
-  pub only : (key : ℕ) (coverage : Float) → alternate_of reported threshold segments ≡ Named key coverage → Rightly reported threshold segments key coverage
-  pub whenever : T (lt plus_zero threshold) → (key : ℕ) → Reaches reported threshold segments key → (k : ℕ) × (c : Float) × (alternate_of reported threshold segments ≡ Named k c)
+  pub only : (key : ℕ) (coverage : Float) → alternate_of reported threshold segments ≡ Some (alternate key coverage) → Rightly reported threshold segments key coverage
+  pub whenever : T (lt plus_zero threshold) → (key : ℕ) → Reaches reported threshold segments key → (k : ℕ) × (c : Float) × (alternate_of reported threshold segments ≡ Some (alternate k c))
 
 -- where the threshold is no NaN and the seconds' sum is finite
 abbrev pub NamedExactly : Type 0

@@ -1,5 +1,5 @@
 // The alternate key: the other key with the most seconds, where they cover enough.
-ghost use Rattle.std.specs.Prelude.{◌≡◌, ℕ, ◌<◌, ◌≤◌, length};
+ghost use Rattle.std.specs.Prelude.{◌≡◌, ℕ, ◌<◌, ◌≤◌, length, Some};
 ghost use Rattle.std.specs.Float.{binary64};
 ghost use Rattle.std.specs.Float.Ieee.{add};
 ghost use Rattle.laws.specs.Order.{total_order};
@@ -15,18 +15,18 @@ use keys::Key;
 use numbers::floats::{larger, total_before};
 use timeline::segment::{Segment, segment_seconds, stretch_at};
 
-// No alternate, or a key by its number with the part of the track that it covers.
+// A key by its number, with the part of the track that it covers.
 #[derive(Clone, Copy)]
-pub enum Alternate {
-    Nobody,
-    Named(u8, f32),
+pub struct Alternate {
+    pub key: u8,
+    pub coverage: f32,
 }
 
-// The other key that leads so far, with its seconds.
+// A key other than the reported one, with its seconds.
 #[derive(Clone, Copy)]
-enum Rival {
-    None,
-    Leads(u8, f64),
+struct Rival {
+    key: u8,
+    sum: f64,
 }
 
 // Each key's seconds, and the keys in the order in which they are first met, behind the reported one.
@@ -48,15 +48,14 @@ fn held_seconds(segment: Segment) -> f64
 fn is_lasting(segment: Segment) -> bool
     ensures { result ≡ lasting segment }
 {
-    !(held_seconds(segment) <= 0.0000000000000002220446049250313)
+    !(held_seconds(segment) <= f64::EPSILON)
 }
 
 // One segment's length more.
 fn with_length(sum: f64, segment: Segment) -> f64
     ensures { result ≡ add binary64 sum (held_seconds segment) }
 {
-    let length = held_seconds(segment);
-    sum + length
+    sum + held_seconds(segment)
 }
 
 // All segments' lengths, summed in order from -0.
@@ -65,11 +64,8 @@ fn total_seconds(count: usize, starts: &[f64], ends: &[f64], keys: &[u8]) -> f64
     ensures { result ≡ total_of (stretches_in (lent_stretches starts.now ends.now keys.now) count) }
 {
     let mut sum = -0.0;
-    let mut i = 0;
-    while i < count {
-        let segment = stretch_at(i, starts, ends, keys);
-        sum = with_length(sum, segment);
-        i += 1;
+    for i in 0..count {
+        sum = with_length(sum, stretch_at(i, starts, ends, keys));
     }
     sum
 }
@@ -86,73 +82,59 @@ fn note_segments(reported: u8, count: usize, starts: &[f64], ends: &[f64], keys:
     order[0] = reported;
     known[reported as usize] = true;
     let mut met = 1;
-    let mut i = 0;
-    while i < count {
-        let next = i + 1;
+    for i in 0..count {
         let segment = stretch_at(i, starts, ends, keys);
         if is_lasting(segment) {
-            let own = segment.key;
-            let key = u8::from(own);
+            let key = u8::from(segment.key);
             let at = key as usize;
-            let length = held_seconds(segment);
-            sums[at] = sums[at] + length;
+            sums[at] += held_seconds(segment);
             if !known[at] {
                 known[at] = true;
                 order[met] = key;
-                met = met + 1;
+                met += 1;
             }
         }
-        i = next;
     }
     Noted { sums, order, met }
 }
 
 // The next key takes the lead unless the leading seconds are above its own.
-fn take_lead(rival: Rival, key: u8, sum: f64) -> Rival
-    ensures { standing_of result ≡ outdone total_order (λ (k : ℕ). sum) (standing_of rival) key }
+fn take_lead(leader: Option<Rival>, next: Rival) -> Rival
+    ensures { standing_of (Some result) ≡ outdone total_order (λ (k : ℕ). next.sum) (standing_of leader) next.key }
 {
-    match rival {
-        Rival::None => Rival::Leads(key, sum),
-        Rival::Leads(leading, most) => {
-            if total_before(most, sum) {
-                Rival::Leads(key, sum)
-            } else {
-                Rival::Leads(leading, most)
-            }
-        }
+    match leader {
+        Some(rival) if !total_before(rival.sum, next.sum) => rival,
+        _ => next,
     }
 }
 
 // Of the keys behind the reported one, the last with the most seconds.
-fn find_leader(noted: Noted) -> Rival
+fn find_leader(noted: Noted) -> Option<Rival>
     requires { (0 < noted.met) × (noted.met ≤ 24) × (noted.met ≤ length noted.order) × Numbered noted.order noted.met }
     ensures { standing_of result ≡ leader_in noted }
 {
-    let mut rival = Rival::None;
-    let mut j = 1;
-    while j < noted.met {
+    let mut leader = None;
+    for j in 1..noted.met {
         let key = noted.order[j];
         let sum = noted.sums[key as usize];
-        rival = take_lead(rival, key, sum);
-        j += 1;
+        leader = Some(take_lead(leader, Rival { key, sum }));
     }
-    rival
+    leader
 }
 
 // Names the leading key unless its part of all seconds lacks.
-fn judge(threshold: f32, total: f64, rival: Rival) -> Alternate
-    ensures { result ≡ named_unless_lacking threshold total (standing_of rival) }
+fn judge(threshold: f32, total: f64, leader: Option<Rival>) -> Option<Alternate>
+    ensures { result ≡ named_unless_lacking threshold total (standing_of leader) }
 {
-    match rival {
-        Rival::None => Alternate::Nobody,
-        Rival::Leads(key, sum) => {
-            let coverage = narrow(sum / total);
-            if coverage + 0.00000011920929 < threshold {
-                Alternate::Nobody
-            } else {
-                Alternate::Named(key, coverage)
-            }
-        }
+    let rival = leader?;
+    let coverage = narrow(rival.sum / total);
+    if coverage + f32::EPSILON < threshold {
+        None
+    } else {
+        Some(Alternate {
+            key: rival.key,
+            coverage,
+        })
     }
 }
 
@@ -164,18 +146,17 @@ pub fn alternate_key(
     starts: &[f64],
     ends: &[f64],
     keys: &[u8],
-) -> Alternate
+) -> Option<Alternate>
     requires { Stretched (lent_stretches starts.now ends.now keys.now) count }
     ensures { result ≡ alternate_of (key_number reported) threshold (stretches_in (lent_stretches starts.now ends.now keys.now) count) }
 {
     if (threshold <= 0.0) | (count == 0) {
-        return Alternate::Nobody;
+        return None;
     }
     let total = total_seconds(count, starts, ends, keys);
-    if total <= 0.0000000000000002220446049250313 {
-        return Alternate::Nobody;
+    if total <= f64::EPSILON {
+        return None;
     }
     let noted = note_segments(u8::from(reported), count, starts, ends, keys);
-    let rival = find_leader(noted);
-    judge(threshold, total, rival)
+    judge(threshold, total, find_leader(noted))
 }

@@ -27,10 +27,10 @@ use Rattle.segments.specs.inside.Fill.{segments_of}
 use Rattle.segments.proofs.LaidOut.{track-laid-out}
 use Rattle.longest.specs.Longest.{reported_of}
 use Rattle.longest.proofs.Reported.{longest-reported}
-use Rattle.alternates.specs.Alternate.{lasting, lasts_in, alternate_of, alternate_number, alternate_coverage}
+use Rattle.std.specs.Prelude.{Option, None, Some}
+use Rattle.alternates.specs.Alternate.{lasting, lasts_in, alternate, alternate_of, alternate_number, alternate_coverage}
 use Rattle.alternates.specs.Named.{Reaches, Rightly, Exactly}
 use Rattle.alternates.specs.declared.alternate.Alternate.{Alternate}
-use Rattle.alternates.specs.declared.alternate.Alternate.TheVariants.{Nobody, Named}
 use Rattle.alternates.proofs.Named.{named-exactly}
 use Rattle.alternates.proofs.Tiled.{tiled-total-finite}
 use Rattle.answers.specs.Answer.{counts, keyless, with_alternate}
@@ -55,16 +55,16 @@ reaching-below {segments = segments} {key} r =
     subst (λ (k : ℕ). k < 24) own (numbers-are-keys.below (segment_at segments place).key)
 
 module _ {reported : ℕ} {threshold : Float} {segments : List Segment} (exactly : Exactly reported threshold segments) where
-  named-only : (a : Alternate) → alternate_of reported threshold segments ≡ a → alternate_number a < 24 → Rightly reported threshold segments (alternate_number a) (alternate_coverage a)
-  named-only Nobody e h = absurd (omega (arith, h))
-  named-only (Named key coverage) e h = exactly.only key coverage e
+  named-only : (a : Option Alternate) → alternate_of reported threshold segments ≡ a → alternate_number a < 24 → Rightly reported threshold segments (alternate_number a) (alternate_coverage a)
+  named-only None e h = absurd (omega (arith, h))
+  named-only (Some a) e h = exactly.only a.key a.coverage e
 
-  named-whenever : (k : ℕ) × (c : Float) × (alternate_of reported threshold segments ≡ Named k c) → alternate_number (alternate_of reported threshold segments) < 24
-  named-whenever (k, c, e) = subst (λ (a : Alternate). alternate_number a < 24) (sym e) (reaching-below (exactly.only k c e).reaches)
+  named-whenever : (k : ℕ) × (c : Float) × (alternate_of reported threshold segments ≡ Some (alternate k c)) → alternate_number (alternate_of reported threshold segments) < 24
+  named-whenever (k, c, e) = subst (λ (a : Option Alternate). alternate_number a < 24) (sym e) (reaching-below (exactly.only k c e).reaches)
 
-named-otherwise : (a : Alternate) → (alternate_number a < 24 → ⊥) → ((key : ℕ) (coverage : Float) → a ≡ Named key coverage → key < 24) → (alternate_number a ≡ 24) × (alternate_coverage a ≡ plus_zero)
-named-otherwise Nobody none below = (refl, refl)
-named-otherwise (Named key coverage) none below = absurd (none (below key coverage refl))
+named-otherwise : (a : Option Alternate) → (alternate_number a < 24 → ⊥) → ((key : ℕ) (coverage : Float) → a ≡ Some (alternate key coverage) → key < 24) → (alternate_number a ≡ 24) × (alternate_coverage a ≡ plus_zero)
+named-otherwise None none below = (refl, refl)
+named-otherwise (Some a) none below = absurd (none (below a.key a.coverage refl))
 
 alternating : (threshold : Float) (v : Verdict) (c : Counts) (segments : List Segment) → ((reported : ℕ) → Exactly reported threshold segments) → Alternating threshold (named_in threshold v c segments) segments
 unfolding named_in with_alternate

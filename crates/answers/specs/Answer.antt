@@ -1,5 +1,5 @@
 -- What an analysis answers, as numbers. Definitions only.
-use Rattle.std.specs.Prelude.{ℕ, List, Bool, false, replicate, Float}
+use Rattle.std.specs.Prelude.{ℕ, List, Bool, false, replicate, Float, Option}
 use Rattle.laws.specs.Values.{plus_zero}
 use Rattle.numbers.specs.Flags.{one_if}
 use Rattle.keys.specs.declared.Key.{Key}
@@ -37,5 +37,5 @@ unfoldable pub keyless : ℕ → ℕ → ℕ → AnalyseResult
 keyless refusal position frames = answer_of refusal position 24 24 plus_zero plus_zero false (counts frames 0 0) (replicate 12 plus_zero)
 
 -- with the reported key, and the alternate that is named or not
-unfoldable pub with_alternate : Verdict → Key → Counts → Alternate → AnalyseResult
+unfoldable pub with_alternate : Verdict → Key → Counts → Option Alternate → AnalyseResult
 with_alternate v reported c other = answer_of 0 0 (key_number reported) (alternate_number other) (alternate_coverage other) v.confidence v.shapeless c v.chroma

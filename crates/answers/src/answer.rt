@@ -1,11 +1,10 @@
 // What an analysis answers, as numbers.
 ghost use Rattle.std.specs.Prelude.{◌≡◌};
 ghost use Rattle.keys.specs.Numbers.{key_number};
-ghost use Rattle.answers.specs.Answer.{answer_of, keyless, with_alternate};
+ghost use Rattle.answers.specs.Answer.{keyless, with_alternate};
 
 use alternates::alternate::Alternate;
 use keys::Key;
-use numbers::flags::one_if;
 use verdicts::verdict::Verdict;
 
 // Refusal or 0, the position that 9 names, keys by number (24 for a missing one), 1 where the chroma has no shape, how
@@ -55,19 +54,21 @@ pub fn keyless(refusal: u32, position: usize, frames: usize) -> AnalyseResult
     }
 }
 
-// An answer with the reported key, and an alternate's number and coverage.
-fn with_key(
+// An answer with the reported key, and the alternate that is named or not.
+pub fn with_alternate(
     verdict: Verdict,
     reported: Key,
     counts: Counts,
-    alternate: u32,
-    coverage: f32,
+    other: Option<Alternate>,
 ) -> AnalyseResult
-    ensures { result ≡ answer_of 0 0 (key_number reported) alternate coverage verdict.confidence verdict.shapeless counts verdict.chroma }
+    ensures { result ≡ with_alternate verdict reported counts other }
 {
-    let key = u8::from(reported) as u32;
-    let shapeless = one_if(verdict.shapeless) as u32;
+    let key = u32::from(u8::from(reported));
     let chroma = verdict.chroma;
+    let (alternate, coverage) = match other {
+        Some(named) => (u32::from(named.key), named.coverage),
+        None => (24, 0.0),
+    };
     AnalyseResult {
         refusal: 0,
         position: 0,
@@ -76,27 +77,10 @@ fn with_key(
         alternate,
         coverage,
         confidence: verdict.confidence,
-        shapeless,
+        shapeless: u32::from(verdict.shapeless),
         frames: counts.frames as u64,
         estimates: counts.estimates as u64,
         segments: counts.segments as u64,
         chroma,
-    }
-}
-
-// The same, by the alternate that is named or not.
-pub fn with_alternate(
-    verdict: Verdict,
-    reported: Key,
-    counts: Counts,
-    other: Alternate,
-) -> AnalyseResult
-    ensures { result ≡ with_alternate verdict reported counts other }
-{
-    match other {
-        Alternate::Nobody => with_key(verdict, reported, counts, 24, 0.0),
-        Alternate::Named(key, coverage) => {
-            with_key(verdict, reported, counts, key as u32, coverage)
-        }
     }
 }

@@ -24,11 +24,8 @@ fn longest_segment(count: usize, starts: &[f64], ends: &[f64], keys: &[u8]) -> S
     ensures { result ≡ longest_of (stretches_in (lent_stretches starts.now ends.now keys.now) count) }
 {
     let mut best = stretch_at(0, starts, ends, keys);
-    let mut i = 0;
-    while i < count {
-        let segment = stretch_at(i, starts, ends, keys);
-        best = longer_of(best, segment);
-        i += 1;
+    for i in 0..count {
+        best = longer_of(best, stretch_at(i, starts, ends, keys));
     }
     best
 }
@@ -39,8 +36,8 @@ pub fn reported_key(classified: Key, count: usize, starts: &[f64], ends: &[f64],
     ensures { result ≡ reported_of classified (stretches_in (lent_stretches starts.now ends.now keys.now) count) }
 {
     if count > 1 {
-        let best = longest_segment(count, starts, ends, keys);
-        return best.key;
+        longest_segment(count, starts, ends, keys).key
+    } else {
+        classified
     }
-    classified
 }

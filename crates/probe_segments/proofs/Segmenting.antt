@@ -3,14 +3,16 @@ use mathlib.Core.Path.{◌≡◌, refl, sym, ap, subst, ◌∙◌}
 use mathlib.Core.Logic.{inl, inr}
 use mathlib.Core.Bool.{Bool, true, false, not}
 use mathlib.Core.List.{List, [], ◌∷◌}
-use Prim.Native.Nat.{ℕ, zero, suc, ◌+◌, ◌^◌, ◌<◌, min}
+use Prim.Native.Nat.{ℕ, zero, suc, ◌+◌, ◌^◌, ◌<◌, ◌≤◌, min}
 use native.Mathlib.Numerals.{add-one}
 use native.Mathlib.Omega.{arith}
 use borrow.Author.Tests.{lt-ltb, le-ltb, ltb-true, leb-true, eqb-true, not-true, not-false}
 use lib.Dec.{T, eqb, ltb, leb, ltb→lt}
-use lib.ListN.{length, get_or}
+use lib.ListN.{length, get_or, take}
+use lib.Seq.{get_or-take, length-take-le}
 use lib.Ieee.{Float, lt}
 use lib.Ieee.Fits.{and_l, and_r}
+use Rattle.laws.specs.Every.{every}
 use Rattle.laws.specs.Front.{list}
 use Rattle.laws.specs.Values.{plus_zero, clear}
 use Rattle.laws.proofs.Cases.{lt-or-ge}
@@ -45,18 +47,35 @@ failed {flag} e t = sym e ∙ not-true flag t
 passed : {flag test : Bool} → flag ≡ test → not flag ≡ false → test ≡ true
 passed {flag} e t = sym e ∙ not-false flag t
 
--- a number held at a limit is below it where the number is
-pub held_below : (n limit : ℕ) {held : ℕ} → held ≡ min n limit → ltb held limit ≡ ltb n limit
-held_below n limit {held} e =
+-- a number held at a bound that is no lower than a limit is below the limit where the number is
+pub held_below : (n limit bound : ℕ) {held : ℕ} → limit ≤ bound → held ≡ min n bound → ltb held limit ≡ ltb n limit
+held_below n limit bound {held} h e =
     elim (lt-or-ge n limit) [
-      | inl low ↦ lt-ltb held limit (omega (arith, e, low)) ∙ sym (lt-ltb n limit low)
-      | inr high ↦ le-ltb held limit (omega (arith, e, high)) ∙ sym (le-ltb n limit high)
+      | inl low ↦ lt-ltb held limit (omega (arith, e, low, h)) ∙ sym (lt-ltb n limit low)
+      | inr high ↦ le-ltb held limit (omega (arith, e, high, h)) ∙ sym (le-ltb n limit high)
     ]
 
 -- one count more
 pub counts-more : (counts : List ℕ) (i : ℕ) → counts_upto counts (i + 1) ≡ counts_upto counts i + get_or counts i 0
 unfolding counts_upto
 counts-more counts i = ap (counts_upto counts) (add-one i)
+
+-- a list's first numbers and counts are those of a list of them alone
+numbers-upto : (keys : List ℕ) (n k : ℕ) → k ≤ n → all_numbers (take n keys) k ≡ all_numbers keys k
+unfolding every
+numbers-upto keys n zero h = refl
+numbers-upto keys n (suc k) h = rw (numbers-upto keys n k (omega arith), get_or-take n keys k 0 h)
+
+counts-taken : (counts : List ℕ) (n k : ℕ) → k ≤ n → counts_upto (take n counts) k ≡ counts_upto counts k
+unfolding counts_upto
+counts-taken counts n zero h = refl
+counts-taken counts n (suc k) h = rw (counts-taken counts n k (omega arith), get_or-take n counts k 0 h)
+
+pub numbers-taken : (keys : List ℕ) (n : ℕ) → n ≤ length keys → all_numbers (take n keys) (length (take n keys)) ≡ all_numbers keys n
+numbers-taken keys n h = ap (all_numbers (take n keys)) (length-take-le n keys h) ∙ numbers-upto keys n n (omega arith)
+
+pub few-taken : (counts : List ℕ) (n : ℕ) → n ≤ length counts → few_windows (take n counts) (length (take n counts)) ≡ few_windows counts n
+few-taken counts n h = ap (few_windows (take n counts)) (length-take-le n counts h) ∙ ap (λ (sum : ℕ). ltb sum 4_294_967_296) (counts-taken counts n n (omega arith))
 
 -- the counts in the rows are the segments' own
 counts-are : (rows : SegmentRows) (count : ℕ) → counts_upto rows.counts count ≡ total_windows (segments_in rows count)

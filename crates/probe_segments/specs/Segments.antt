@@ -1,5 +1,5 @@
 -- What the probes of segments answer and leave, for rows of any length and any numbers in them. Definitions only.
-use Rattle.std.specs.Prelude.{ℕ, zero, suc, ◌+◌, min, Bool, ◌&&◌, cond, List, [], ◌∷◌, eqb, ltb, leb, length, get_or, Float}
+use Rattle.std.specs.Prelude.{ℕ, zero, suc, ◌+◌, min, Bool, ◌&&◌, cond, List, [], ◌∷◌, eqb, ltb, leb, length, get_or, Float, Option}
 use Rattle.std.specs.Float.Ieee.{lt}
 use Rattle.laws.specs.Values.{plus_zero}
 use Rattle.laws.specs.Every.{every}
@@ -62,7 +62,7 @@ abbrev pub probed_reported : ℕ → Stretches → ℕ
 probed_reported classified c = key_number (reported_of (key_at classified) (stretches_in c (stretch_room c)))
 
 -- both parts of an alternate's answer
-abbrev pub probed_answer : Alternate → ProbedAlternate
+abbrev pub probed_answer : Option Alternate → ProbedAlternate
 probed_answer a = record { key = alternate_number a; coverage = alternate_coverage a }
 
 -- the alternate key of all rows

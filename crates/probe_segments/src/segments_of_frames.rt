@@ -7,7 +7,6 @@ ghost use Rattle.probe_segments.specs.Segments.{heard_in, probed_track, can_run,
 use crate::segments_of_rows::track_of;
 use calls::Settings;
 use conversions::widen;
-use numbers::counts::fewer;
 use segments::fill::Track;
 use segments::track::locate_segments;
 use timeline::estimate::estimate_room;
@@ -78,7 +77,7 @@ pub extern "C" fn probe_segments(
         };
     }
     let track = probed_track(settings, samples, key, confidence);
-    let frames = fewer(centres.len(), values.len());
+    let frames = centres.len().min(values.len());
     let located = locate_segments(
         span,
         track,

@@ -8,7 +8,6 @@ ghost use Rattle.probe_segments.specs.Segments.{probed_majority, all_numbers, fe
 use alternates::alternate::{Alternate, alternate_key};
 use longest::longest::reported_key;
 use majorities::majority::majority_key;
-use numbers::counts::fewer;
 use segments::fill::{Track, fill_segments};
 use shortening::shorten::shorten_segments;
 use timeline::segment::segment_room;
@@ -22,16 +21,13 @@ pub struct ProbedAlternate {
     pub coverage: f32,
 }
 
-// Whether each of the first numbers is a key's.
-fn all_numbers(numbers: &[u8], count: usize) -> bool
-    requires { count ≤ length numbers.now }
-    ensures { result ≡ all_numbers numbers.now count }
+// Whether each number is a key's.
+fn all_numbers(numbers: &[u8]) -> bool
+    ensures { result ≡ all_numbers numbers.now (length numbers.now) }
 {
     let mut sofar = true;
-    let mut i = 0;
-    while i < count {
-        sofar = sofar & (numbers[i] < 24);
-        i += 1;
+    for number in numbers {
+        sofar &= *number < 24;
     }
     sofar
 }
@@ -41,24 +37,22 @@ fn all_numbers(numbers: &[u8], count: usize) -> bool
 pub extern "C" fn probe_majority(numbers: &[u8]) -> u8
     ensures { result ≡ probed_majority numbers.now }
 {
-    if all_numbers(numbers, numbers.len()) {
-        return majority_key(numbers);
+    if all_numbers(numbers) {
+        majority_key(numbers)
+    } else {
+        0
     }
-    0
 }
 
-// Whether the first counts sum to a count of 32 bits.
-fn few_windows(counts: &[u32], count: usize) -> bool
-    requires { count ≤ length counts.now }
-    ensures { result ≡ few_windows counts.now count }
+// Whether the counts sum to a count of 32 bits.
+fn few_windows(counts: &[u32]) -> bool
+    ensures { result ≡ few_windows counts.now (length counts.now) }
 {
-    let mut total = 0;
-    let mut i = 0;
-    while i < count {
-        total = fewer(total + counts[i] as usize, 4_294_967_296);
-        i += 1;
+    let mut total: u64 = 0;
+    for windows in counts {
+        total = total.saturating_add(u64::from(*windows));
     }
-    total < 4_294_967_296
+    total < 0x1_0000_0000
 }
 
 // Whether the first rows can be shortened.
@@ -66,7 +60,7 @@ fn can_shorten(keys: &[u8], counts: &[u32], count: usize) -> bool
     requires { (count ≤ length keys.now) × (count ≤ length counts.now) }
     ensures { result ≡ can_shorten keys.now counts.now count }
 {
-    all_numbers(keys, count) & few_windows(counts, count)
+    all_numbers(&keys[..count]) & few_windows(&counts[..count])
 }
 
 // All rows shortened; nothing where a key is above 23 or the counts sum to more than 32 bits hold.
@@ -92,7 +86,7 @@ pub extern "C" fn probe_shorten(
 fn stretch_room(starts: &[f64], ends: &[f64], keys: &[u8]) -> usize
     ensures { result ≡ stretch_room (lent_stretches starts.now ends.now keys.now) }
 {
-    fewer(starts.len(), fewer(ends.len(), keys.len()))
+    starts.len().min(ends.len().min(keys.len()))
 }
 
 // The reported key of all rows.
@@ -107,15 +101,18 @@ pub extern "C" fn probe_reported(classified: u8, starts: &[f64], ends: &[f64], k
 }
 
 // Both parts of an alternate's answer.
-fn answer_of(alternate: Alternate) -> ProbedAlternate
+fn answer_of(alternate: Option<Alternate>) -> ProbedAlternate
     ensures { result ≡ probed_answer alternate }
 {
     match alternate {
-        Alternate::Nobody => ProbedAlternate {
+        None => ProbedAlternate {
             key: 24,
             coverage: 0.0,
         },
-        Alternate::Named(key, coverage) => ProbedAlternate { key, coverage },
+        Some(named) => ProbedAlternate {
+            key: named.key,
+            coverage: named.coverage,
+        },
     }
 }
 
@@ -185,7 +182,7 @@ pub extern "C" fn probe_cut(
     if !cut_fits(middles.len(), found, certainties.len(), room) {
         return 0;
     }
-    if !all_numbers(numbers, found) {
+    if !all_numbers(numbers) {
         return 0;
     }
     let track = track_of(threshold, minimum, duration, key, confidence);

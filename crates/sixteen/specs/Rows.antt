@@ -1,5 +1,5 @@
 -- Document 01's sixteen rows, a to p, each as a test of the definitions that the checker computes. Definitions and the statement.
-use Rattle.std.specs.Prelude.{ℕ, Bool, true, false, not, ◌&&◌, List, [], ◌∷◌, ◌++◌, T, eqb, pos, length, get_or, replicate, Float}
+use Rattle.std.specs.Prelude.{ℕ, Bool, true, false, not, ◌&&◌, List, [], ◌∷◌, ◌++◌, T, eqb, pos, length, get_or, replicate, Float, Option}
 use Rattle.std.specs.Float.{nan, binary32, binary64}
 use Rattle.std.specs.Float.Ieee.{is_nan, of_int, of_bits, to_bits}
 use Rattle.laws.specs.Every.{every}
@@ -96,7 +96,7 @@ abbrev pub a_quarter : ℕ
 a_quarter = 0x3e80_0000
 
 -- the answer is this key number, with a coverage of this pattern
-abbrev pub answers : ℕ → ℕ → Alternate → Bool
+abbrev pub answers : ℕ → ℕ → Option Alternate → Bool
 answers number coverage a = eqb (alternate_number a) number && eqb (to_bits binary32 (alternate_coverage a)) coverage
 
 -- that is the answer where key 0 is reported and the threshold is 0.25

@@ -1,5 +1,5 @@
 -- Only for the code's own steps: no promise names it. What is noted of the segments. Definitions only.
-use Rattle.std.specs.Prelude.{ℕ, List, ◌∷◌, length, get_or, replicate, Float}
+use Rattle.std.specs.Prelude.{ℕ, List, ◌∷◌, length, get_or, replicate, Float, Option, None, Some}
 use Rattle.std.specs.Float.{nan}
 use Rattle.std.proofs.Math.Seq.{slice}
 use Rattle.laws.specs.Front.{front, list}
@@ -8,7 +8,6 @@ use Rattle.laws.specs.Leader.{keys_met, Standing, nobody, leads, last_largest}
 use Rattle.timeline.specs.declared.segment.Segment.{Segment}
 use Rattle.alternates.specs.Alternate.{seconds_of, lasting_keys}
 use Rattle.alternates.specs.declared.alternate.Rival.{Rival}
-use Rattle.alternates.specs.declared.alternate.Rival.TheVariants.{None, Leads}
 use Rattle.alternates.specs.declared.alternate.Noted.{Noted}
 
 -- what is noted, from its parts
@@ -21,10 +20,10 @@ noted_of reported segments =
     let keys = reported ∷ lasting_keys segments in
     noted (list (seconds_of segments) 24) (front (keys_met keys) (replicate 24 0)) (length (keys_met keys))
 
--- who leads, as the code's enum says it
-abbrev pub standing_of : Rival → Standing Float
+-- who leads, as the code says it
+abbrev pub standing_of : Option Rival → Standing Float
 standing_of None = nobody
-standing_of (Leads key sum) = leads key sum
+standing_of (Some r) = leads r.key r.sum
 
 -- of the keys behind the reported one, the last with the most seconds
 unfoldable pub leader_in : Noted → Standing Float

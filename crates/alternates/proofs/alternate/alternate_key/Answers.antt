@@ -24,8 +24,8 @@ note_segments-noted-requires c =
     let numbered : c.from.result < 24 = subst (λ (n : ℕ). n < 24) (sym c.from.ensures) (numbers-are-keys.below c.args.reported) in
     (numbered, search rules)
 
-pub find_leader-rival-requires : goal.find_leader-rival-requires
-find_leader-rival-requires c =
+pub find_leader-requires : goal.find_leader-requires
+find_leader-requires c =
     let numbered : c.from.result < 24 = subst (λ (n : ℕ). n < 24) (sym c.from.ensures) (numbers-are-keys.below c.args.reported) in
     noted-fits c.from.result (numbered) ((stretches_in ((lent_stretches c.args.starts.now c.args.ends.now c.args.keys.now)) c.args.count)) c.note_segments-noted.ensures
 
@@ -33,6 +33,6 @@ pub returns : goal.returns
 unfolding of_bits
 returns c =
     let numbered : c.from.result < 24 = subst (λ (n : ℕ). n < 24) (sym c.from.ensures) (numbers-are-keys.below c.args.reported) in
-    let rival = c.find_leader-rival.ensures ∙ rival-told c.from.result (numbered) ((stretches_in ((lent_stretches c.args.starts.now c.args.ends.now c.args.keys.now)) c.args.count)) c.note_segments-noted.ensures ∙ ap (λ (key : ℕ). rival_of key ((stretches_in ((lent_stretches c.args.starts.now c.args.ends.now c.args.keys.now)) c.args.count))) c.from.ensures in
+    let rival = c.find_leader.ensures ∙ rival-told c.from.result (numbered) ((stretches_in ((lent_stretches c.args.starts.now c.args.ends.now c.args.keys.now)) c.args.count)) c.note_segments-noted.ensures ∙ ap (λ (key : ℕ). rival_of key ((stretches_in ((lent_stretches c.args.starts.now c.args.ends.now c.args.keys.now)) c.args.count))) c.from.ensures in
     c.judge.ensures
     ∙ rival-named ((lent_stretches c.args.starts.now c.args.ends.now c.args.keys.now)) c.args.count (key_number c.args.reported) c.args.threshold c.if-threshold-count.false c.total_seconds-total.ensures c.if-total.false rival

@@ -1,4 +1,4 @@
--- The loop's invariant: the keys that are left lead from who leads so far to the last of the largest.
+-- The keys that are left lead from who leads so far to the last of the largest.
 use mathlib.Core.Path.{refl, ◌∙◌}
 use Prim.Native.Nat.{ℕ, ◌<◌}
 use native.Mathlib.Omega.{arith}
@@ -14,7 +14,7 @@ use Rattle.alternates.proofs.alternate.find_leader.Goals as goal
 
 pub loop-j-init : goal.loop-j-init
 unfolding leader_in last_largest
-loop-j-init c = (omega arith, c.requires.0, refl)
+loop-j-init c = refl
 
 pub offset_bounds-noted-key : goal.offset_bounds-noted-key
 offset_bounds-noted-key c =
@@ -28,10 +28,11 @@ bounds-noted-key c =
 
 pub loop-j-preserved : goal.loop-j-preserved
 loop-j-preserved c =
-    let led = c.take_lead-rival.ensures ∙ outdone-same total_order _ (λ (key : ℕ). get_or (c.args.noted).sums key nan) (standing_of c.loop-j.rival) _ refl in
-    (omega arith, omega (arith, c.loop-j-test.true), fold-again (step (c.args.noted)) (c.args.noted).order (c.args.noted).met c.loop-j.j 0 c.loop-j.invariant.2 (c.loop-j-test.true) c.requires.2 led)
+    let n = c.args.noted in
+    let led = c.take_lead.ensures ∙ outdone-same total_order _ (λ (key : ℕ). get_or n.sums key nan) (standing_of c.loop-j.leader) _ refl in
+    fold-again (step n) n.order n.met c.loop-j.j 0 c.loop-j.invariant c.loop-j-test.true c.requires.2 led
 
 pub returns : goal.returns
 returns c =
     let n = c.args.noted in
-    fold_end (step n) n.order n.met c.loop-j.j c.loop-j.invariant.2 (omega (arith, c.loop-j.invariant.1, c.loop-j-test.false))
+    fold_end (step n) n.order n.met c.loop-j.j c.loop-j.invariant (omega (arith, c.loop-j.auto.j-end c.requires.0, c.loop-j-test.false))

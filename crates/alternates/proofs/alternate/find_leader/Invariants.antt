@@ -1,6 +1,6 @@
--- The loop's invariant: the keys that are left lead from who leads so far to the last of the largest.
+-- The keys that are left lead from who leads so far to the last of the largest.
 use mathlib.Core.Path.{◌≡◌}
-use Prim.Native.Nat.{ℕ, ◌≤◌, ◌-◌}
+use Prim.Native.Nat.{ℕ}
 use lib.ListN.{get_or}
 use lib.Seq.{slice}
 use lib.Ieee.{Float, nan}
@@ -16,7 +16,4 @@ abbrev pub step : Noted → Standing Float → ℕ → Standing Float
 step n = outdone total_order (λ (k : ℕ). get_or n.sums k nan)
 
 abbrev pub invariant-loop-j : goal.invariant-loop-j
-invariant-loop-j l = (1 ≤ l.j) × (l.j ≤ l.noted.met) × (fold (step l.noted) (standing_of l.rival) (slice l.j l.noted.met l.noted.order) ≡ leader_in l.noted)
-
-abbrev pub decreases-loop-j : goal.decreases-loop-j
-decreases-loop-j l = l.noted.met - l.j
+invariant-loop-j l = fold (step l.noted) (standing_of l.leader) (slice l.j l.noted.met l.noted.order) ≡ leader_in l.noted

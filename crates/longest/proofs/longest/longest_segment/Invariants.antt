@@ -1,6 +1,6 @@
--- The loop's invariant: the turns that are left lead from the best so far to the longest.
+-- The turns that are left lead from the best so far to the longest.
 use mathlib.Core.Path.{◌≡◌}
-use Prim.Native.Nat.{◌-◌, ◌≤◌}
+use Prim.Native.Nat.{◌-◌}
 use Rattle.laws.specs.Turns.{turns}
 use Rattle.timeline.specs.inside.Segments.{stretches, stretches_in}
 use Rattle.longest.specs.Longest.{longest_turn, longest_of}
@@ -9,7 +9,4 @@ use Rattle.longest.proofs.longest.longest_segment.Given as goal
 abbrev pub invariant-loop-i : goal.invariant-loop-i
 invariant-loop-i l =
     let segments = stretches_in (stretches l.starts l.ends l.keys) l.count in
-    (l.i ≤ l.count) × (turns (longest_turn segments) (l.count - l.i) l.i l.best ≡ longest_of segments)
-
-abbrev pub decreases-loop-i : goal.decreases-loop-i
-decreases-loop-i l = l.count - l.i
+    turns (longest_turn segments) (l.count - l.i) l.i l.best ≡ longest_of segments

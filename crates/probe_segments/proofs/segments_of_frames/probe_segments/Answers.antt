@@ -42,7 +42,7 @@ returns-then-not-can_run c =
 pub locate_segments-located-requires : goal.locate_segments-located-requires
 locate_segments-located-requires c =
     let args = c.args in
-    locate-needs args.settings args.samples (probed_track args.settings args.samples args.key args.confidence) args.centres.now args.values.now (estimate_rows args.middles.now args.numbers.now args.certainties.now args.shapeless.now) (segment_rows args.starts.now args.ends.now args.keys.now args.confidences.now args.counts.now) c.span_of-span.ensures c.rows_asked-asked.ensures c.estimate_room-estimates.ensures c.segment_room-room.ensures c.can_run.ensures (ap not c.if-not-can_run.false) c.fewer-frames.ensures
+    locate-needs args.settings args.samples (probed_track args.settings args.samples args.key args.confidence) args.centres.now args.values.now (estimate_rows args.middles.now args.numbers.now args.certainties.now args.shapeless.now) (segment_rows args.starts.now args.ends.now args.keys.now args.confidences.now args.counts.now) c.span_of-span.ensures c.rows_asked-asked.ensures c.estimate_room-estimates.ensures c.segment_room-room.ensures c.can_run.ensures (ap not c.if-not-can_run.false) c.min-frames.ensures
 
 pub shape_of-middles : goal.shape_of-middles
 shape_of-middles c = c.middles-1.given
@@ -74,4 +74,4 @@ shape_of-counts c = c.counts-1.given
 pub returns : goal.returns
 returns c =
     let args = c.args in
-    located-so args.settings args.samples (probed_track args.settings args.samples args.key args.confidence) args.centres.now args.values.now (estimate_rows args.middles.now args.numbers.now args.certainties.now args.shapeless.now) (segment_rows args.starts.now args.ends.now args.keys.now args.confidences.now args.counts.now) c.span_of-span.ensures c.rows_asked-asked.ensures c.estimate_room-estimates.ensures c.segment_room-room.ensures c.can_run.ensures (ap not c.if-not-can_run.false) c.fewer-frames.ensures c.probed_track-track.ensures c.locate_segments-located.ensures
+    located-so args.settings args.samples (probed_track args.settings args.samples args.key args.confidence) args.centres.now args.values.now (estimate_rows args.middles.now args.numbers.now args.certainties.now args.shapeless.now) (segment_rows args.starts.now args.ends.now args.keys.now args.confidences.now args.counts.now) c.span_of-span.ensures c.rows_asked-asked.ensures c.estimate_room-estimates.ensures c.segment_room-room.ensures c.can_run.ensures (ap not c.if-not-can_run.false) c.min-frames.ensures c.probed_track-track.ensures c.locate_segments-located.ensures

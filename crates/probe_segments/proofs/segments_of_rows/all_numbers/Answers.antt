@@ -6,12 +6,12 @@ use Rattle.laws.proofs.Every.{every_more, every-all}
 use Rattle.probe_segments.specs.Segments.{is_number}
 use Rattle.probe_segments.proofs.segments_of_rows.all_numbers.Goals as goal
 
-pub loop-i-init : goal.loop-i-init
+pub loop-number-init : goal.loop-number-init
 unfolding every
-loop-i-init c = (omega arith, refl)
+loop-number-init c = refl
 
-pub loop-i-preserved : goal.loop-i-preserved
-loop-i-preserved c = let turn = c.loop-i in (omega arith, every_more (is_number c.args.numbers.now) turn.i turn.invariant.1)
+pub loop-number-preserved : goal.loop-number-preserved
+loop-number-preserved c = every_more (is_number c.args.numbers.now) c.loop-number.number-index c.loop-number.invariant
 
 pub returns : goal.returns
-returns c = let last = c.loop-i in every-all (is_number c.args.numbers.now) last.i c.args.count last.invariant.1 (omega arith)
+returns c = every-all (is_number c.args.numbers.now) c.loop-number.number-index _ c.loop-number.invariant (omega arith)

@@ -17,5 +17,5 @@ returns-then-all_numbers c =
     let all_are : let numbers = c.args.numbers.now in all_numbers numbers (length numbers) ≡ true = sym c.all_numbers.ensures ∙ c.if-all_numbers.true in
     rw (all_are) c.majority_key.ensures
 
-pub returns : goal.returns
-returns c = rw (sym c.all_numbers.ensures ∙ c.if-all_numbers.false)
+pub returns-else-all_numbers : goal.returns-else-all_numbers
+returns-else-all_numbers c = rw (sym c.all_numbers.ensures ∙ c.if-all_numbers.false)
