@@ -1,6 +1,8 @@
 // The form of a key card: how many bytes its fields take, and lists of segments that belong together.
 #![tactic(auto)]
 
+pub mod said;
+
 ghost use Rattle.std.specs.Prelude.{◌≡◌, ◌^◌, ◌<◌};
 ghost use Rattle.card.specs.Layout.{LayoutFits};
 ghost use Rattle.card_form.specs.Form.{card_size};

@@ -1,10 +1,9 @@
 // An analysis in seconds and parts of one: its packed numbers, and the layout of its card.
 ghost use Rattle.std.specs.Prelude.{◌≡◌, length};
-ghost use Rattle.card.specs.Rules.{first_broken, card_broken};
-ghost use Rattle.card_judge.specs.Analysed.{packed_part, packed_header, packed_segment, packed_segments, meaning, analysis, first_gap, layout_of};
+ghost use Rattle.card_judge.specs.Analysed.{packed_part, packed_header, packed_segment, packed_at, analysis, first_gap, layout_of};
 
-use card::layout::{Header, LAST_END, Layout, Segment, layout_1, layout_2};
-use card::rules::{header_broken, segment_broken};
+use card::layout::{Header, LAST_END, Layout, Segment};
+use card_form::said::{SaysCard, layout_for};
 use card_form::unequal_lengths;
 use packed::{milliseconds, thousandths};
 
@@ -69,37 +68,35 @@ fn first_gap(starts: &[f64], ends: &[f64]) -> usize
     }
 }
 
-// The first segment that breaks a rule of the layout, or their count.
-fn first_broken(l: Layout, ends: &[f64], keys: &[u8], confidences: &[f32]) -> usize
-    requires { (length keys.now ≡ length ends.now) × (length confidences.now ≡ length ends.now) }
-    ensures { result ≡ first_broken l (packed_segments ends.now keys.now confidences.now) }
-{
-    let count = ends.len();
-    let mut previous = 0;
-    let mut i = 0;
-    loop {
-        if i >= count {
-            break count;
-        }
-        let s = packed_segment(ends[i], keys[i], confidences[i]);
-        if segment_broken(l, count == 1, previous, s) {
-            break i;
-        }
-        previous = s.end;
-        i += 1;
-    }
+// An analysis that is lent: what it says of the whole track, and its segments in three slices.
+#[derive(Clone, Copy)]
+pub struct LentAnalysis<'a> {
+    pub overall: Overall,
+    pub ends: &'a [f64],
+    pub keys: &'a [u8],
+    pub confidences: &'a [f32],
 }
 
-// Whether an analysis breaks a rule of the layout.
-fn is_broken(l: Layout, o: Overall, ends: &[f64], keys: &[u8], confidences: &[f32]) -> bool
-    requires { (length keys.now ≡ length ends.now) × (length confidences.now ≡ length ends.now) }
-    ensures { result ≡ card_broken l (meaning o ends.now keys.now confidences.now) }
-{
-    let count = ends.len();
-    if header_broken(l, packed_header(o), count) {
-        return true;
+impl<'a> SaysCard for LentAnalysis<'a> {
+    ghost header_of = { λ a. packed_header a.overall };
+
+    ghost segment_of = { λ a. packed_at a.ends.now a.keys.now a.confidences.now };
+
+    ghost count_of = { λ a. length a.ends.now };
+
+    ghost is_whole = { λ a. (length a.keys.now ≡ length a.ends.now) × (length a.confidences.now ≡ length a.ends.now) };
+
+    fn header(&self) -> Header {
+        packed_header(self.overall)
     }
-    first_broken(l, ends, keys, confidences) < count
+
+    fn count(&self) -> usize {
+        self.ends.len()
+    }
+
+    fn segment(&self, i: usize) -> Segment {
+        packed_segment(self.ends[i], self.keys[i], self.confidences[i])
+    }
 }
 
 // The layout that an analysis is written in: the first of which it breaks no rule.
@@ -113,19 +110,17 @@ pub fn layout_of(
     ensures { result ≡ layout_of (analysis o starts.now ends.now keys.now confidences.now) }
 {
     let count = ends.len();
-    let first = layout_1();
-    let second = layout_2();
     if unequal_lengths(starts.len(), count, keys.len(), confidences.len()) {
         return None;
     }
     if first_gap(starts, ends) < count {
         return None;
     }
-    if !is_broken(first, o, ends, keys, confidences) {
-        return Some(first);
-    }
-    if !is_broken(second, o, ends, keys, confidences) {
-        return Some(second);
-    }
-    None
+    let said = LentAnalysis {
+        overall: o,
+        ends,
+        keys,
+        confidences,
+    };
+    layout_for(&said)
 }
