@@ -50,13 +50,6 @@ module _ {h : Heard} {a : Ahead} {start : Float} (known : Known h a start) where
         rising = known.rising;
       }
 
-  -- the frames are those that it counts
-  pub known-heard : heard a.frames h.centres h.values ≡ h
-  known-heard = ap (λ (m : ℕ). heard m h.centres h.values) known.count
-
-  pub known-own : Known (heard a.frames h.centres h.values) a start
-  known-own = subst (λ (x : Heard). Known x a start) (sym known-heard) known
-
 -- ---- the walk
 not-both : (b c : Bool) → T (not c) → (b && c) ≡ false
 not-both b true n = absurd n

@@ -1,2 +1,3 @@
 -- What only the code's own steps need: no promise names it.
 pub mod Ahead
+pub mod Lent

@@ -15,14 +15,11 @@ fn are_rising(frames: usize, centres: &[f64]) -> bool
     requires { frames ≤ length centres.now }
     ensures { result ≡ rises frames centres.now }
 {
-    let mut sofar = true;
-    let mut i = 0;
-    while i + 1 < frames {
-        let next = i + 1;
-        sofar = sofar & (centres[i] <= centres[next]);
-        i = next;
+    let mut rising = true;
+    for i in 1..frames {
+        rising &= centres[i - 1] <= centres[i];
     }
-    sofar
+    rising
 }
 
 // All frames are ahead.
@@ -43,14 +40,12 @@ fn first_from(ahead: Ahead, start: f64, centres: &[f64]) -> usize
     requires { ahead.frames ≤ length centres.now }
     ensures { result ≡ first_from ahead start centres.now }
 {
-    let mut i = ahead.from;
-    while i < ahead.frames {
+    for i in ahead.from..ahead.frames {
         if start <= centres[i] {
             return i;
         }
-        i += 1;
     }
-    i
+    ahead.from.max(ahead.frames)
 }
 
 // The frames before that one are left behind.
@@ -74,12 +69,10 @@ pub fn find_stop(ahead: Ahead, end: f64, centres: &[f64]) -> usize
     if !ahead.rising {
         return ahead.frames;
     }
-    let mut i = ahead.from;
-    while i < ahead.frames {
+    for i in ahead.from..ahead.frames {
         if !(centres[i] < end) {
             return i;
         }
-        i += 1;
     }
-    i
+    ahead.from.max(ahead.frames)
 }

@@ -2,8 +2,10 @@
 ghost use Rattle.std.specs.Prelude.{◌≡◌, ◌+◌, ◌^◌, ◌<◌, ◌≤◌, length};
 ghost use Rattle.gathering.specs.Gather.{heard, with_frame, gathered_of, gathered_after, in_window};
 ghost use Rattle.gathering.specs.inside.Ahead.{Known};
+ghost use Rattle.gathering.specs.inside.Lent.{frames_lent};
 
 use crate::ahead::{Ahead, find_stop};
+use crate::frames::LentFrames;
 use numbers::twelve::add_twelve;
 
 // The sums of the twelve values, and how many frames are in them.
@@ -32,43 +34,27 @@ fn with_frame(gathered: Gathered, values: [f32; 12]) -> Gathered
 }
 
 // The chromas of the frames from `from` on and before `stop` with a centre within, summed in order from +0.
-fn gather_frames(
-    start: f64,
-    end: f64,
-    from: usize,
-    stop: usize,
-    centres: &[f64],
-    values: &[[f32; 12]],
-) -> Gathered
-    requires { (stop ≤ length centres.now) × (stop ≤ length values.now) }
-    ensures { result ≡ gathered_after (heard stop centres.now values.now) from start end }
+fn gather_frames(start: f64, end: f64, from: usize, stop: usize, frames: LentFrames) -> Gathered
+    requires { (stop ≤ length frames.centres.now) × (stop ≤ length frames.values.now) }
+    ensures { result ≡ gathered_after (heard stop frames.entry.centres.now frames.entry.values.now) from start end }
 {
     let mut gathered = Gathered {
         chroma: [0.0; 12],
         frames: 0,
     };
-    let mut i = from;
-    while i < stop {
-        let next = i + 1;
-        if is_within(start, end, centres[i]) {
-            gathered = with_frame(gathered, values[i]);
+    for i in from..stop {
+        if is_within(start, end, frames.centres[i]) {
+            gathered = with_frame(gathered, frames.values[i]);
         }
-        i = next;
     }
     gathered
 }
 
 // What a window gathers of all frames: those left behind, and those from the stop on, are not within.
-pub fn gather_window(
-    start: f64,
-    end: f64,
-    ahead: Ahead,
-    centres: &[f64],
-    values: &[[f32; 12]],
-) -> Gathered
-    requires { (ahead.frames ≤ length centres.now) × (ahead.frames ≤ length values.now) × Known (heard ahead.frames centres.now values.now) ahead start }
-    ensures { result ≡ gathered_of (heard ahead.frames centres.now values.now) start end }
+pub fn gather_window(start: f64, end: f64, ahead: Ahead, frames: LentFrames) -> Gathered
+    requires { (ahead.frames ≤ length frames.centres.now) × (ahead.frames ≤ length frames.values.now) × Known (frames_lent frames) ahead start }
+    ensures { result ≡ gathered_of (frames_lent frames.entry) start end }
 {
-    let stop = find_stop(ahead, end, centres);
-    gather_frames(start, end, ahead.from, stop, centres, values)
+    let stop = find_stop(ahead, end, frames.centres);
+    gather_frames(start, end, ahead.from, stop, frames)
 }

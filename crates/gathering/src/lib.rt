@@ -2,4 +2,5 @@
 #![tactic(auto)]
 
 pub mod ahead;
+pub mod frames;
 pub mod gather;

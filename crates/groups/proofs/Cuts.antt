@@ -89,7 +89,7 @@ module _ {rows : Columns} {threshold : Float} {found : ℕ} {before now : Segmen
         holds = cut.holds;
       }
 
-  pub room-left : Room before (n + 1)
+  room-left : Room before (n + 1)
   room-left =
       let less : n + 1 ≤ found = omega (arith, cut.few, cut.behind, cut.upto) in
       record {
@@ -98,6 +98,18 @@ module _ {rows : Columns} {threshold : Float} {found : ℕ} {before now : Segmen
         keys = omega (arith, cut.room.keys);
         confidences = omega (arith, cut.room.confidences);
         counts = omega (arith, cut.room.counts);
+      }
+
+  -- the rows are as long as before
+  pub room-now : Room now (n + 1)
+  room-now =
+      let left = room-left in
+      record {
+        starts = omega (arith, left.starts, cut.holds.starts.long);
+        ends = omega (arith, left.ends, cut.holds.ends.long);
+        keys = omega (arith, left.keys, cut.holds.keys.long);
+        confidences = omega (arith, left.confidences, cut.holds.confidences.long);
+        counts = omega (arith, left.counts, cut.holds.counts.long);
       }
 
   -- the group up to `to`, written into the next row

@@ -1,15 +1,17 @@
 // Estimates cut into groups, and each group made a segment.
 ghost use Rattle.std.specs.Prelude.{◌≡◌, ◌+◌, ◌^◌, ◌<◌, ◌≤◌, length};
 ghost use Rattle.numbers.specs.Sum.{sum_of};
-ghost use Rattle.timeline.specs.inside.Estimates.{lent_columns, Numbered, Found, estimates_in};
-ghost use Rattle.timeline.specs.Segments.{lent_segments};
+ghost use Rattle.timeline.specs.inside.Estimates.{Numbered, Found, estimates_in};
+ghost use Rattle.timeline.specs.inside.Lent.{columns_lent, segments_lent, SameSegments};
 ghost use Rattle.timeline.specs.inside.Segments.{Room, put_segment, filled_rows, standing};
 ghost use Rattle.groups.specs.Groups.{mean_confidence, groups_of};
-ghost use Rattle.groups.specs.inside.Written.{grouped, group, group_in};
+ghost use Rattle.groups.specs.inside.Written.{grouped, group_in};
 
 use majorities::majority::majority_key;
 use splits::split::{border_in_rows, is_split};
-use timeline::segment::{Segment, put_segment};
+use timeline::columns::LentColumns;
+use timeline::segment::Segment;
+use timeline::segment_rows::LentSegments;
 use timeline::stored::stored_key;
 
 // The estimates from `from` up to `to`, and the time that they stand for.
@@ -21,28 +23,13 @@ struct Group {
     end: f64,
 }
 
-// A group, from its parts.
-fn group_of(from: usize, to: usize, start: f64, end: f64) -> Group
-    ensures { result ≡ group from to start end }
-{
-    Group {
-        from,
-        to,
-        start,
-        end,
-    }
-}
-
 // The confidences summed from -0.
 fn sum_confidences(confidences: &[f32]) -> f32
     ensures { result ≡ sum_of (length confidences.now) confidences.now }
 {
-    let count = confidences.len();
     let mut sum = -0.0;
-    let mut i = 0;
-    while i < count {
-        sum += confidences[i];
-        i += 1;
+    for confidence in confidences {
+        sum += *confidence;
     }
     sum
 }
@@ -61,41 +48,30 @@ fn segment_of_group(start: f64, end: f64, numbers: &[u8], confidences: &[f32]) -
     requires { Numbered numbers.now (length numbers.now) × (length confidences.now < 2 ^ 32) }
     ensures { result ≡ grouped start end numbers.now confidences.now }
 {
-    let key = stored_key(majority_key(numbers));
-    let windows = confidences.len() as u32;
     Segment {
         start,
         end,
-        key,
+        key: stored_key(majority_key(numbers)),
         confidence: mean_confidence(confidences),
-        windows,
+        windows: confidences.len() as u32,
     }
 }
 
 // The segment of a group goes into place n.
-fn write_group(
-    group: Group,
-    numbers: &[u8],
-    certainties: &[f32],
-    n: usize,
-    starts: &mut [f64],
-    ends: &mut [f64],
-    keys: &mut [u8],
-    confidences: &mut [f32],
-    counts: &mut [u32],
-)
-    requires { (group.from < group.to) × (group.to ≤ length numbers.now) × (group.to ≤ length certainties.now) × (group.to < 2 ^ 32) × Numbered numbers.now group.to × Room (lent_segments starts.old ends.old keys.old confidences.old counts.old) (n + 1) }
-    ensures { lent_segments starts.new ends.new keys.new confidences.new counts.new ≡ put_segment (group_in group numbers.now certainties.now) n (lent_segments starts.old ends.old keys.old confidences.old counts.old) }
+fn write_group(group: Group, columns: LentColumns, n: usize, rows: &mut LentSegments)
+    requires { (group.from < group.to) × (group.to ≤ length columns.keys.now) × (group.to ≤ length columns.confidences.now) × (group.to < 2 ^ 32) × Numbered columns.keys.now group.to × Room (segments_lent rows.old) (n + 1) }
+    ensures same_slices { SameSegments rows.old rows.new }
+    ensures written { segments_lent rows.new ≡ put_segment (group_in group columns.entry.keys.now columns.entry.confidences.now) n (segments_lent rows.old) }
 {
-    let from = group.from;
-    let to = group.to;
-    let whole = segment_of_group(
-        group.start,
-        group.end,
-        &numbers[from..to],
-        &certainties[from..to],
-    );
-    put_segment(whole, n, starts, ends, keys, confidences, counts);
+    let Group {
+        from,
+        to,
+        start,
+        end,
+    } = group;
+    let numbers = &columns.keys[from..to];
+    let confidences = &columns.confidences[from..to];
+    rows.put(n, segment_of_group(start, end, numbers, confidences));
 }
 
 // Every group in turn, into the lent rows from the front; returns how many there are.
@@ -103,56 +79,38 @@ pub fn cut_groups(
     threshold: f32,
     duration: f64,
     found: usize,
-    middles: &[f64],
-    numbers: &[u8],
-    certainties: &[f32],
-    starts: &mut [f64],
-    ends: &mut [f64],
-    keys: &mut [u8],
-    confidences: &mut [f32],
-    counts: &mut [u32],
+    columns: LentColumns,
+    rows: &mut LentSegments,
 ) -> usize
-    requires { (0 < found) × Found (lent_columns middles.now numbers.now certainties.now) found × Room (lent_segments starts.old ends.old keys.old confidences.old counts.old) found }
-    ensures { filled_rows result (lent_segments starts.new ends.new keys.new confidences.new counts.new) ≡ standing (groups_of threshold duration (estimates_in (lent_columns middles.now numbers.now certainties.now) found)) (lent_segments starts.old ends.old keys.old confidences.old counts.old) }
+    requires { (0 < found) × Found (columns_lent columns) found × Room (segments_lent rows.old) found }
+    ensures same_slices { SameSegments rows.old rows.new }
+    ensures filled { filled_rows result (segments_lent rows.new) ≡ standing (groups_of threshold duration (estimates_in (columns_lent columns.entry) found)) (segments_lent rows.old) }
 {
-    let last = found - 1;
     let mut from = 0;
     let mut start = 0.0;
     let mut n = 0;
-    let mut j = 0;
-    while j < last {
+    for j in 0..found - 1 {
         let next = j + 1;
-        if is_split(threshold, j, next, numbers, certainties) {
-            let end = border_in_rows(j, next, middles);
-            let group = group_of(from, next, start, end);
-            write_group(
-                group,
-                numbers,
-                certainties,
-                n,
-                starts,
-                ends,
-                keys,
-                confidences,
-                counts,
-            );
+        if is_split(threshold, j, next, columns) {
+            let end = border_in_rows(j, next, columns);
+            let group = Group {
+                from,
+                to: next,
+                start,
+                end,
+            };
+            write_group(group, columns, n, rows);
             from = next;
             start = end;
-            n = n + 1;
+            n += 1;
         }
-        j = next;
     }
-    let group = group_of(from, found, start, duration);
-    write_group(
-        group,
-        numbers,
-        certainties,
-        n,
-        starts,
-        ends,
-        keys,
-        confidences,
-        counts,
-    );
+    let group = Group {
+        from,
+        to: found,
+        start,
+        end: duration,
+    };
+    write_group(group, columns, n, rows);
     n + 1
 }

@@ -11,7 +11,7 @@ use numbers::counts::fewer;
 use packed::milliseconds;
 use records::{record_at, shorten_records};
 use std::io;
-use timeline::segment::{Segment, emptied_segment};
+use timeline::segment::Segment;
 use timeline::stored::stored_key;
 
 // Three records, of which so many hold segments.
@@ -127,7 +127,7 @@ fn print_two(rt: &impl Print, letter: &[u8], first: f64, second: f64) -> io::Res
         2,
         part(0.0, first, 0, 1),
         part(first, second, 7, 2),
-        emptied_segment(),
+        Segment::emptied(),
     )
 }
 

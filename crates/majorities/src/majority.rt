@@ -17,23 +17,18 @@ fn count_votes(numbers: &[u8]) -> Tally
     requires { Numbered numbers.now (length numbers.now) }
     ensures { result ≡ tally_of numbers.now }
 {
-    let count = numbers.len();
     let mut votes = [0; 24];
     let mut order = [0; 24];
     let mut known = [false; 24];
     let mut met = 0;
-    let mut i = 0;
-    while i < count {
-        let next = i + 1;
-        let key = numbers[i];
-        let at = key as usize;
-        votes[at] = votes[at] + 1;
+    for key in numbers {
+        let at = *key as usize;
+        votes[at] += 1;
         if !known[at] {
             known[at] = true;
-            order[met] = key;
-            met = met + 1;
+            order[met] = *key;
+            met += 1;
         }
-        i = next;
     }
     Tally { votes, order, met }
 }
@@ -45,16 +40,12 @@ fn most_voted(tally: Tally) -> u8
 {
     let mut leading = 0;
     let mut most = 0;
-    let mut j = 0;
-    while j < tally.met {
-        let next = j + 1;
-        let key = tally.order[j];
-        let votes = tally.votes[key as usize];
+    for key in &tally.order[..tally.met] {
+        let votes = tally.votes[*key as usize];
         if most <= votes {
-            leading = key;
+            leading = *key;
             most = votes;
         }
-        j = next;
     }
     leading
 }

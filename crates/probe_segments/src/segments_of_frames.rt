@@ -7,10 +7,13 @@ ghost use Rattle.probe_segments.specs.Segments.{heard_in, probed_track, can_run,
 use crate::segments_of_rows::track_of;
 use calls::Settings;
 use conversions::widen;
+use gathering::frames::LentFrames;
 use segments::fill::Track;
 use segments::track::locate_segments;
 use timeline::estimate::estimate_room;
+use timeline::estimate_rows::LentEstimates;
 use timeline::segment::segment_room;
+use timeline::segment_rows::LentSegments;
 use windows::span::{rows_asked, span_of};
 
 // How many estimates and segments there are, with an outcome.
@@ -78,21 +81,29 @@ pub extern "C" fn probe_segments(
     }
     let track = probed_track(settings, samples, key, confidence);
     let frames = centres.len().min(values.len());
-    let located = locate_segments(
-        span,
-        track,
-        frames,
-        centres,
-        values,
-        middles,
-        numbers,
-        certainties,
+    let mut found = LentEstimates {
+        centres: middles,
+        keys: numbers,
+        confidences: certainties,
         shapeless,
+    };
+    let mut rows = LentSegments {
         starts,
         ends,
         keys,
         confidences,
         counts,
+    };
+    let located = locate_segments(
+        span,
+        track,
+        LentFrames {
+            count: frames,
+            centres,
+            values,
+        },
+        &mut found,
+        &mut rows,
     );
     ProbedSegments {
         outcome: 0,

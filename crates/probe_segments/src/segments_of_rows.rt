@@ -10,7 +10,9 @@ use longest::longest::reported_key;
 use majorities::majority::majority_key;
 use segments::fill::{Track, fill_segments};
 use shortening::shorten::shorten_segments;
+use timeline::columns::LentColumns;
 use timeline::segment::segment_room;
+use timeline::segment_rows::LentSegments;
 use timeline::stored::stored_key;
 
 // An alternate's key number, 24 where there is none, and its coverage.
@@ -79,7 +81,14 @@ pub extern "C" fn probe_shorten(
     if !can_shorten(keys, counts, count) {
         return 0;
     }
-    shorten_segments(least, count, starts, ends, keys, confidences, counts)
+    let mut rows = LentSegments {
+        starts,
+        ends,
+        keys,
+        confidences,
+        counts,
+    };
+    shorten_segments(least, count, &mut rows)
 }
 
 // How many rows three columns have.
@@ -186,16 +195,17 @@ pub extern "C" fn probe_cut(
         return 0;
     }
     let track = track_of(threshold, minimum, duration, key, confidence);
-    fill_segments(
-        track,
-        found,
-        middles,
-        numbers,
-        certainties,
+    let columns = LentColumns {
+        centres: middles,
+        keys: numbers,
+        confidences: certainties,
+    };
+    let mut rows = LentSegments {
         starts,
         ends,
         keys,
         confidences,
         counts,
-    )
+    };
+    fill_segments(track, found, columns, &mut rows)
 }

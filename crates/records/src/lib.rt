@@ -9,7 +9,7 @@ ghost use Rattle.shortening.specs.Shorten.{first_short, keeper};
 ghost use Rattle.records.specs.Records.{left, shortened_in};
 ghost use Rattle.records.specs.inside.Steps.{moved_down, copied_down, JoinableAt, joined_at, joined_records, place_after, kept_place};
 
-use timeline::segment::{Segment, emptied_segment, is_short, join_segments, segment_seconds};
+use timeline::segment::Segment;
 
 // Record i.
 pub fn record_at(records: &[Segment], i: usize) -> Segment
@@ -42,13 +42,10 @@ pub fn close_gap(records: &mut [Segment], p: usize, count: usize)
     ensures { records.new ≡ moved_down p count emptied records.old }
 {
     let last = count - 1;
-    let mut j = p;
-    while j < last {
+    for j in p..last {
         copy_down(records, j);
-        j += 1;
     }
-    let nothing = emptied_segment();
-    put_record(records, last, nothing);
+    put_record(records, last, Segment::emptied());
 }
 
 // Record p takes in the one behind it.
@@ -58,8 +55,7 @@ pub fn join_at(records: &mut [Segment], p: usize)
 {
     let earlier = record_at(records, p);
     let later = record_at(records, p + 1);
-    let both = join_segments(earlier, later);
-    put_record(records, p, both);
+    put_record(records, p, earlier.joined(later));
 }
 
 // Of the first `count` records, p and p + 1 become one.
@@ -81,8 +77,7 @@ pub fn first_short(records: &[Segment], least: f64, count: usize) -> usize
         if i >= count {
             break count;
         }
-        let record = record_at(records, i);
-        if is_short(least, record) {
+        if record_at(records, i).is_short(least) {
             break i;
         }
         i += 1;
@@ -93,18 +88,18 @@ pub fn first_short(records: &[Segment], least: f64, count: usize) -> usize
 fn place_before(i: usize) -> usize
     ensures { result ≡ i - 1 }
 {
-    if i == 0 { 0 } else { i - 1 }
+    i.saturating_sub(1)
 }
 
 // The place behind i among `count`: i itself where it is the last.
 fn place_after(i: usize, count: usize) -> usize
     ensures { result ≡ place_after i count }
 {
-    if i >= count {
-        return i;
+    if i < count.saturating_sub(1) {
+        i + 1
+    } else {
+        i
     }
-    let after = i + 1;
-    if after < count { after } else { i }
 }
 
 // The earlier of the two that join where i is short, by its neighbours.
@@ -117,9 +112,7 @@ fn kept_place(i: usize, before: usize, after: usize, earlier: Segment, later: Se
     if after == i {
         return before;
     }
-    let earlier_seconds = segment_seconds(earlier);
-    let later_seconds = segment_seconds(later);
-    if later_seconds <= earlier_seconds {
+    if later.seconds() <= earlier.seconds() {
         before
     } else {
         i

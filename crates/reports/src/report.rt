@@ -13,9 +13,12 @@ use alternates::alternate::alternate_key;
 use answers::answer::{AnalyseResult, Counts, with_alternate};
 use calls::Settings;
 use conversions::widen;
+use gathering::frames::LentFrames;
 use longest::longest::reported_key;
 use segments::fill::Track;
 use segments::track::locate_segments;
+use timeline::estimate_rows::LentEstimates;
+use timeline::segment_rows::LentSegments;
 use verdicts::verdict::Verdict;
 use windows::span::{Span, span_of};
 
@@ -75,22 +78,31 @@ pub fn report_track(
 {
     let span = span_of(settings, samples);
     let track = track_of(settings, span, verdict);
-    let located = locate_segments(
-        span,
-        track,
-        frames,
-        centres,
-        values,
-        middles,
-        numbers,
-        certainties,
+    let mut found = LentEstimates {
+        centres: middles,
+        keys: numbers,
+        confidences: certainties,
         shapeless,
+    };
+    let mut rows = LentSegments {
         starts,
         ends,
         keys,
         confidences,
         counts,
+    };
+    let located = locate_segments(
+        span,
+        track,
+        LentFrames {
+            count: frames,
+            centres,
+            values,
+        },
+        &mut found,
+        &mut rows,
     );
+    let told = rows.stretches();
     name_keys(
         settings.alternate_coverage_threshold,
         verdict,
@@ -99,8 +111,8 @@ pub fn report_track(
             estimates: located.estimates,
             segments: located.segments,
         },
-        starts,
-        ends,
-        keys,
+        told.starts,
+        told.ends,
+        told.keys,
     )
 }

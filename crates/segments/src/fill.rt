@@ -1,14 +1,16 @@
 // The segments of a track, from its estimates into lent rows.
-ghost use Rattle.std.specs.Prelude.{◌≡◌, ◌<◌, ◌≤◌, length};
-ghost use Rattle.timeline.specs.inside.Estimates.{lent_columns, Found, estimates_in};
-ghost use Rattle.timeline.specs.Segments.{lent_segments};
+ghost use Rattle.std.specs.Prelude.{◌≡◌};
+ghost use Rattle.timeline.specs.inside.Estimates.{Found, estimates_in};
+ghost use Rattle.timeline.specs.inside.Lent.{columns_lent, segments_lent, SameSegments};
 ghost use Rattle.timeline.specs.inside.Segments.{Room, filled_rows, standing};
 ghost use Rattle.segments.specs.inside.Fill.{filled_of, cut_of};
 
 use groups::cut::cut_groups;
 use keys::Key;
 use shortening::shorten::shorten_segments;
-use timeline::segment::{Segment, put_segment};
+use timeline::columns::LentColumns;
+use timeline::segment::Segment;
+use timeline::segment_rows::LentSegments;
 
 // What segments rest on beside estimates: a split's threshold, the least length, the track's duration, key, confidence.
 #[derive(Clone, Copy)]
@@ -21,45 +23,22 @@ pub struct Track {
 }
 
 // The segments before shortening: one over the whole track where there is no estimate.
-fn cut_track(
-    track: Track,
-    found: usize,
-    middles: &[f64],
-    numbers: &[u8],
-    certainties: &[f32],
-    starts: &mut [f64],
-    ends: &mut [f64],
-    keys: &mut [u8],
-    confidences: &mut [f32],
-    counts: &mut [u32],
-) -> usize
-    requires { Found (lent_columns middles.now numbers.now certainties.now) found × Room (lent_segments starts.old ends.old keys.old confidences.old counts.old) found × Room (lent_segments starts.old ends.old keys.old confidences.old counts.old) 1 }
-    ensures { filled_rows result (lent_segments starts.new ends.new keys.new confidences.new counts.new) ≡ standing (cut_of track (estimates_in (lent_columns middles.now numbers.now certainties.now) found)) (lent_segments starts.old ends.old keys.old confidences.old counts.old) }
+fn cut_track(track: Track, found: usize, columns: LentColumns, rows: &mut LentSegments) -> usize
+    requires { Found (columns_lent columns) found × Room (segments_lent rows.old) found × Room (segments_lent rows.old) 1 }
+    ensures same_slices { SameSegments rows.old rows.new }
+    ensures cut { filled_rows result (segments_lent rows.new) ≡ standing (cut_of track (estimates_in (columns_lent columns.entry) found)) (segments_lent rows.old) }
 {
     if found > 0 {
-        return cut_groups(
-            track.threshold,
-            track.duration,
-            found,
-            middles,
-            numbers,
-            certainties,
-            starts,
-            ends,
-            keys,
-            confidences,
-            counts,
-        );
+        return cut_groups(track.threshold, track.duration, found, columns, rows);
     }
-    let key = track.key;
     let whole = Segment {
         start: 0.0,
         end: track.duration,
-        key,
+        key: track.key,
         confidence: track.confidence,
         windows: 0,
     };
-    put_segment(whole, 0, starts, ends, keys, confidences, counts);
+    rows.put(0, whole);
     1
 }
 
@@ -67,37 +46,13 @@ fn cut_track(
 pub fn fill_segments(
     track: Track,
     found: usize,
-    middles: &[f64],
-    numbers: &[u8],
-    certainties: &[f32],
-    starts: &mut [f64],
-    ends: &mut [f64],
-    keys: &mut [u8],
-    confidences: &mut [f32],
-    counts: &mut [u32],
+    columns: LentColumns,
+    rows: &mut LentSegments,
 ) -> usize
-    requires { Found (lent_columns middles.now numbers.now certainties.now) found × Room (lent_segments starts.old ends.old keys.old confidences.old counts.old) found × Room (lent_segments starts.old ends.old keys.old confidences.old counts.old) 1 }
-    ensures { filled_rows result (lent_segments starts.new ends.new keys.new confidences.new counts.new) ≡ filled_of track (estimates_in (lent_columns middles.now numbers.now certainties.now) found) (lent_segments starts.old ends.old keys.old confidences.old counts.old) }
+    requires { Found (columns_lent columns) found × Room (segments_lent rows.old) found × Room (segments_lent rows.old) 1 }
+    ensures same_slices { SameSegments rows.old rows.new }
+    ensures filled { filled_rows result (segments_lent rows.new) ≡ filled_of track (estimates_in (columns_lent columns.entry) found) (segments_lent rows.old) }
 {
-    let count = cut_track(
-        track,
-        found,
-        middles,
-        numbers,
-        certainties,
-        starts,
-        ends,
-        keys,
-        confidences,
-        counts,
-    );
-    shorten_segments(
-        track.minimum,
-        count,
-        starts,
-        ends,
-        keys,
-        confidences,
-        counts,
-    )
+    let count = cut_track(track, found, columns, rows);
+    shorten_segments(track.minimum, count, rows)
 }

@@ -66,6 +66,16 @@ emptying-start {from} before h room =
     }
 
 module _ {from count : ℕ} {before now : SegmentRows} {i : ℕ} (e : Emptying from count before now i) where
+  -- the next row is there
+  pub emptying-room : i < count → (i < length now.starts) × (i < length now.ends) × (i < length now.keys) × (i < length now.confidences) × (i < length now.counts)
+  emptying-room h = (
+    omega (arith, e.room.starts, e.starts.long),
+    omega (arith, e.room.ends, e.ends.long),
+    omega (arith, e.room.keys, e.keys.long),
+    omega (arith, e.room.confidences, e.confidences.long),
+    omega (arith, e.room.counts, e.counts.long),
+  )
+
   pub emptying-more : {s : Segment} {after : SegmentRows} → i < count → s ≡ emptied → after ≡ put_segment s i now → Emptying from count before after (i + 1)
   emptying-more h nothing put = rw (put, nothing) (record {
     since = omega (arith, e.since);

@@ -3,28 +3,28 @@
 // perhaps for the last, and rows behind it are unread.
 ghost use Rattle.std.specs.Prelude.{◌≡◌, ◌+◌, ◌-◌, ◌^◌, ◌<◌, ◌≤◌, length};
 ghost use Rattle.timeline.specs.inside.Estimates.{Numbered};
-ghost use Rattle.timeline.specs.Segments.{lent_segments, segments_in};
+ghost use Rattle.timeline.specs.Segments.{segments_in};
 ghost use Rattle.timeline.specs.Counts.{total_windows};
+ghost use Rattle.timeline.specs.inside.Lent.{segments_lent, SameSegments};
 ghost use Rattle.timeline.specs.inside.Segments.{Room, filled_rows};
 ghost use Rattle.shortening.specs.inside.Settled.{settled};
 ghost use Rattle.shortening.specs.inside.Lengths.{first_short_in, joins_back};
 ghost use Rattle.shortening.specs.inside.Gap.{JoinableRows, joined_rows, taken_in, emptied_rows};
 
-use timeline::segment::{
-    emptied_segment, is_short, is_short_row, join_segments, put_segment, row_seconds, segment_at,
-};
+use timeline::segment::Segment;
+use timeline::segment_rows::LentSegments;
 
 // Where the first short segment stands: the count where none is short.
-fn first_short(least: f64, count: usize, starts: &[f64], ends: &[f64]) -> usize
-    requires { (count ≤ length starts.now) × (count ≤ length ends.now) }
-    ensures { result ≡ first_short_in least starts.now ends.now count }
+fn first_short(least: f64, count: usize, rows: &LentSegments) -> usize
+    requires { (count ≤ length rows.now.starts.now) × (count ≤ length rows.now.ends.now) }
+    ensures { result ≡ first_short_in least rows.now.starts.now rows.now.ends.now count }
 {
     let mut i = 0;
     loop {
         if i >= count {
             break count;
         }
-        if is_short_row(least, i, starts, ends) {
+        if rows.is_short(least, i) {
             break i;
         }
         i += 1;
@@ -32,19 +32,12 @@ fn first_short(least: f64, count: usize, starts: &[f64], ends: &[f64]) -> usize
 }
 
 // Whether the last of the first `done` segments is short and joins the one before it; `next` is the row of the one behind it.
-fn joins_back(
-    least: f64,
-    done: usize,
-    next: usize,
-    count: usize,
-    starts: &[f64],
-    ends: &[f64],
-) -> bool
-    requires { (0 < done) × (done ≤ next) × (next ≤ count) × (count ≤ length starts.now) × (count ≤ length ends.now) }
-    ensures { result ≡ joins_back least done next count starts.now ends.now }
+fn joins_back(least: f64, done: usize, next: usize, count: usize, rows: &LentSegments) -> bool
+    requires { (0 < done) × (done ≤ next) × (next ≤ count) × (count ≤ length rows.now.starts.now) × (count ≤ length rows.now.ends.now) }
+    ensures { result ≡ joins_back least done next count rows.now.starts.now rows.now.ends.now }
 {
     let last = done - 1;
-    if !is_short_row(least, last, starts, ends) {
+    if !rows.is_short(least, last) {
         return false;
     }
     if last == 0 {
@@ -53,106 +46,57 @@ fn joins_back(
     if next == count {
         return true;
     }
-    let before = last - 1;
-    let earlier = row_seconds(before, starts, ends);
-    let later = row_seconds(next, starts, ends);
+    let earlier = rows.seconds(last - 1);
+    let later = rows.seconds(next);
     later <= earlier
 }
 
 // The segments in the rows p and p + 1 become one, in row p.
-fn join_rows(
-    p: usize,
-    starts: &mut [f64],
-    ends: &mut [f64],
-    keys: &mut [u8],
-    confidences: &mut [f32],
-    counts: &mut [u32],
-)
-    requires { Room (lent_segments starts.old ends.old keys.old confidences.old counts.old) (p + 2) × JoinableRows p (p + 1) (lent_segments starts.old ends.old keys.old confidences.old counts.old) }
-    ensures { lent_segments starts.new ends.new keys.new confidences.new counts.new ≡ joined_rows p (lent_segments starts.old ends.old keys.old confidences.old counts.old) }
+fn join_rows(p: usize, rows: &mut LentSegments)
+    requires { Room (segments_lent rows.old) (p + 2) × JoinableRows p (p + 1) (segments_lent rows.old) }
+    ensures same_slices { SameSegments rows.old rows.new }
+    ensures joined { segments_lent rows.new ≡ joined_rows p (segments_lent rows.old) }
 {
-    let next = p + 1;
-    let earlier = segment_at(p, starts, ends, keys, confidences, counts);
-    let later = segment_at(next, starts, ends, keys, confidences, counts);
-    put_segment(
-        join_segments(earlier, later),
-        p,
-        starts,
-        ends,
-        keys,
-        confidences,
-        counts,
-    );
+    let earlier = rows.at(p);
+    let later = rows.at(p + 1);
+    rows.put(p, earlier.joined(later));
 }
 
 // The segment in row `next` joins the last of the first `done` where that is short, and else stands behind it; returns how many there are then.
-fn take_in(
-    least: f64,
-    done: usize,
-    next: usize,
-    starts: &mut [f64],
-    ends: &mut [f64],
-    keys: &mut [u8],
-    confidences: &mut [f32],
-    counts: &mut [u32],
-) -> usize
-    requires { (0 < done) × (done ≤ next) × Room (lent_segments starts.old ends.old keys.old confidences.old counts.old) (next + 1) × JoinableRows (done - 1) next (lent_segments starts.old ends.old keys.old confidences.old counts.old) }
-    ensures { filled_rows result (lent_segments starts.new ends.new keys.new confidences.new counts.new) ≡ taken_in least done next (lent_segments starts.old ends.old keys.old confidences.old counts.old) }
+fn take_in(least: f64, done: usize, next: usize, rows: &mut LentSegments) -> usize
+    requires { (0 < done) × (done ≤ next) × Room (segments_lent rows.old) (next + 1) × JoinableRows (done - 1) next (segments_lent rows.old) }
+    ensures same_slices { SameSegments rows.old rows.new }
+    ensures taken { filled_rows result (segments_lent rows.new) ≡ taken_in least done next (segments_lent rows.old) }
 {
     let last = done - 1;
-    let current = segment_at(last, starts, ends, keys, confidences, counts);
-    let following = segment_at(next, starts, ends, keys, confidences, counts);
-    if is_short(least, current) {
-        let both = join_segments(current, following);
-        put_segment(both, last, starts, ends, keys, confidences, counts);
+    let current = rows.at(last);
+    let following = rows.at(next);
+    if current.is_short(least) {
+        rows.put(last, current.joined(following));
         return done;
     }
-    put_segment(following, done, starts, ends, keys, confidences, counts);
+    rows.put(done, following);
     done + 1
 }
 
 // The rows from `from` up to `count` are emptied.
-fn empty_rows(
-    from: usize,
-    count: usize,
-    starts: &mut [f64],
-    ends: &mut [f64],
-    keys: &mut [u8],
-    confidences: &mut [f32],
-    counts: &mut [u32],
-)
-    requires { (from ≤ count) × Room (lent_segments starts.old ends.old keys.old confidences.old counts.old) count }
-    ensures { lent_segments starts.new ends.new keys.new confidences.new counts.new ≡ emptied_rows from count (lent_segments starts.old ends.old keys.old confidences.old counts.old) }
+fn empty_rows(from: usize, count: usize, rows: &mut LentSegments)
+    requires { (from ≤ count) × Room (segments_lent rows.old) count }
+    ensures same_slices { SameSegments rows.old rows.new }
+    ensures emptied { segments_lent rows.new ≡ emptied_rows from count (segments_lent rows.old) }
 {
-    let mut i = from;
-    while i < count {
-        put_segment(
-            emptied_segment(),
-            i,
-            starts,
-            ends,
-            keys,
-            confidences,
-            counts,
-        );
-        i += 1;
+    for i in from..count {
+        rows.put(i, Segment::emptied());
     }
 }
 
 // The Rust's `merge_short_segments`: joins in the first `count` rows, and returns how many segments are left.
-pub fn shorten_segments(
-    least: f64,
-    count: usize,
-    starts: &mut [f64],
-    ends: &mut [f64],
-    keys: &mut [u8],
-    confidences: &mut [f32],
-    counts: &mut [u32],
-) -> usize
-    requires { Room (lent_segments starts.old ends.old keys.old confidences.old counts.old) count × Numbered keys.old count × (total_windows (segments_in (lent_segments starts.old ends.old keys.old confidences.old counts.old) count) < 2 ^ 32) }
-    ensures { filled_rows result (lent_segments starts.new ends.new keys.new confidences.new counts.new) ≡ settled least (segments_in (lent_segments starts.old ends.old keys.old confidences.old counts.old) count) (lent_segments starts.old ends.old keys.old confidences.old counts.old) }
+pub fn shorten_segments(least: f64, count: usize, rows: &mut LentSegments) -> usize
+    requires { Room (segments_lent rows.old) count × Numbered rows.old.keys.now count × (total_windows (segments_in (segments_lent rows.old) count) < 2 ^ 32) }
+    ensures same_slices { SameSegments rows.old rows.new }
+    ensures filled { filled_rows result (segments_lent rows.new) ≡ settled least (segments_in (segments_lent rows.old) count) (segments_lent rows.old) }
 {
-    let first = first_short(least, count, starts, ends);
+    let first = first_short(least, count, rows);
     // none is short: the rows stay as they are
     if first == count {
         return count;
@@ -160,17 +104,17 @@ pub fn shorten_segments(
     let mut done = first + 1;
     let mut next = first + 1;
     loop {
-        if joins_back(least, done, next, count, starts, ends) {
-            done = done - 1;
-            join_rows(done - 1, starts, ends, keys, confidences, counts);
+        if joins_back(least, done, next, count, rows) {
+            done -= 1;
+            join_rows(done - 1, rows);
         } else {
             if next == count {
                 break;
             }
-            done = take_in(least, done, next, starts, ends, keys, confidences, counts);
-            next = next + 1;
+            done = take_in(least, done, next, rows);
+            next += 1;
         }
     }
-    empty_rows(done, count, starts, ends, keys, confidences, counts);
+    empty_rows(done, count, rows);
     done
 }

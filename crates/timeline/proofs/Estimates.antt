@@ -9,8 +9,12 @@ use Rattle.laws.proofs.Column.{column-at}
 use Rattle.keys.specs.Numbers.{key_number}
 use Rattle.keys.proofs.Placed.{numbers-are-keys}
 use Rattle.timeline.specs.Estimates.{EstimateRows, holding_estimates, no_estimate}
-use Rattle.timeline.specs.inside.Estimates.{columns_of, as_read, estimate_in, estimates_in, Numbered}
+use Rattle.timeline.specs.inside.Estimates.{estimate_rows, columns_of, as_read, estimate_in, estimates_in, Numbered}
 use Rattle.timeline.specs.declared.estimate.Estimate.{Estimate}
+
+-- rows are the same where each column is
+pub same_estimates : {a b : EstimateRows} → a.centres ≡ b.centres → a.keys ≡ b.keys → a.confidences ≡ b.confidences → a.shapeless ≡ b.shapeless → a ≡ b
+same_estimates p q r s = λ i. estimate_rows (p i) (q i) (r i) (s i)
 
 pub rows-numbered : (found : List Estimate) (before : EstimateRows) → Numbered (holding_estimates found before).keys (length found)
 rows-numbered found before i h =

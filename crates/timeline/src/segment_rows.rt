@@ -1,7 +1,7 @@
 // Segments in lent rows: five slices side by side.
 ghost use Rattle.std.specs.Prelude.{◌≡◌, ◌<◌, length};
 ghost use Rattle.timeline.specs.Segments.{segment_in, segment_room};
-ghost use Rattle.timeline.specs.inside.Segments.{put_segment, stretches_of};
+ghost use Rattle.timeline.specs.inside.Segments.{put_segment, seconds_in, short_in, stretches_of};
 ghost use Rattle.timeline.specs.inside.Lent.{segments_lent, stretches_lent, SameSegments};
 
 use crate::segment::Segment;
@@ -44,6 +44,22 @@ impl LentSegments<'_> {
             confidence: self.confidences[i],
             windows: self.counts[i],
         }
+    }
+
+    // How long the segment in row i is, in seconds.
+    pub fn seconds(&self, i: usize) -> f64
+        requires { (i < length self.now.starts.now) × (i < length self.now.ends.now) }
+        ensures { result ≡ seconds_in self.now.starts.now self.now.ends.now i }
+    {
+        self.ends[i] - self.starts[i]
+    }
+
+    // Whether the segment in row i is shorter than the minimum.
+    pub fn is_short(&self, least: f64, i: usize) -> bool
+        requires { (i < length self.now.starts.now) × (i < length self.now.ends.now) }
+        ensures { result ≡ short_in least self.now.starts.now self.now.ends.now i }
+    {
+        self.seconds(i) < least
     }
 
     // How many rows there are.

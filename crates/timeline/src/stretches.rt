@@ -1,6 +1,6 @@
 // The columns of segments that the reported key and the alternate are read from.
 ghost use Rattle.std.specs.Prelude.{◌≡◌, ◌<◌, length};
-ghost use Rattle.timeline.specs.inside.Segments.{seconds_in, short_in, stretch_in};
+ghost use Rattle.timeline.specs.inside.Segments.{stretch_in};
 ghost use Rattle.timeline.specs.inside.Lent.{stretches_lent};
 
 use crate::segment::Segment;
@@ -27,21 +27,5 @@ impl LentStretches<'_> {
             confidence: 0.0,
             windows: 0,
         }
-    }
-
-    // How long the segment in row i is, in seconds.
-    pub fn seconds(self, i: usize) -> f64
-        requires { (i < length self.starts.now) × (i < length self.ends.now) }
-        ensures { result ≡ seconds_in self.entry.starts.now self.entry.ends.now i }
-    {
-        self.ends[i] - self.starts[i]
-    }
-
-    // Whether the segment in row i is shorter than the minimum.
-    pub fn is_short(self, least: f64, i: usize) -> bool
-        requires { (i < length self.starts.now) × (i < length self.ends.now) }
-        ensures { result ≡ short_in least self.entry.starts.now self.entry.ends.now i }
-    {
-        self.seconds(i) < least
     }
 }

@@ -6,7 +6,7 @@ use Rattle.laws.proofs.Column.{Column, column-start, column-more}
 use Rattle.numbers.specs.Flags.{one_if}
 use Rattle.keys.specs.Numbers.{key_number}
 use Rattle.windows.specs.Span.{start_of}
-use Rattle.gathering.specs.Gather.{Heard, heard}
+use Rattle.gathering.specs.Gather.{Heard}
 use Rattle.gathering.specs.inside.Ahead.{ahead_of, skipped_to, Known}
 use Rattle.timeline.specs.Estimates.{EstimateRows}
 use Rattle.timeline.specs.inside.Estimates.{estimate_rows}
@@ -16,7 +16,7 @@ use Rattle.gathering.specs.declared.ahead.Ahead.{Ahead}
 use Rattle.windows.specs.declared.span.Span.{Span}
 use Rattle.timeline.specs.declared.estimate.Estimate.{Estimate}
 use Rattle.windows.proofs.Found.{after-silent, after-heard}
-use Rattle.gathering.proofs.Known.{known_start, known-skip, known-later, known-heard}
+use Rattle.gathering.proofs.Known.{known_start, known-skip, known-later}
 use Rattle.windows.proofs.Starts.{start_first, start-next, start-upward}
 
 -- The n estimates of the windows before k stand in the lent rows.
@@ -100,12 +100,12 @@ module _ {s : Span} {h : Heard} {windows : ℕ} {before now : EstimateRows} {a :
     onward : T (le start (add binary64 start s.hop))
     onward = subst₂ (λ (x y : Float). T (le x y)) (sym reached.at) (sym (start-next s k reached.at)) (start-upward s reached.ready.onward k)
 
-    pub reached-again : {m : ℕ} {after : EstimateRows} → k < windows → wrote m after ≡ window_written s (heard next.frames h.centres h.values) start n now → Reached s h windows before after next (add binary64 start s.hop) (k + 1) m
+    pub reached-again : {m : ℕ} {after : EstimateRows} → k < windows → wrote m after ≡ window_written s h start n now → Reached s h windows before after next (add binary64 start s.hop) (k + 1) m
     reached-again inside written =
         record {
           ready = reached.ready;
           known = known-later reached-known onward;
           at = start-next s k reached.at;
           upto = omega (arith, inside);
-          holds = holds-next reached.ready inside reached.holds reached.at (written ∙ ap (λ (x : Heard). window_written s x start n now) (known-heard reached-known));
+          holds = holds-next reached.ready inside reached.holds reached.at written;
         }

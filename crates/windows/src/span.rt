@@ -42,15 +42,13 @@ fn passes(span: Span) -> usize
     ensures { result ≡ windows_within (budget_for longest_track) span }
 {
     let mut start = 0.0;
-    let mut k = 0;
-    while k < BUDGET {
+    for k in 0..BUDGET {
         if !(start + span.window <= span.duration) {
             return k;
         }
-        start = start + span.hop;
-        k += 1;
+        start += span.hop;
     }
-    k
+    BUDGET
 }
 
 // How many windows the track is cut into: none where it is brief.
@@ -64,6 +62,5 @@ pub fn count_windows(span: Span) -> usize
 pub fn rows_asked(span: Span) -> usize
     ensures { result ≡ rows_asked span }
 {
-    let windows = count_windows(span);
-    if windows < 1 { 1 } else { windows }
+    count_windows(span).max(1)
 }

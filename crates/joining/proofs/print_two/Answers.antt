@@ -5,4 +5,4 @@ use Rattle.joining.proofs.print_two.Goals as goal
 
 pub print_row-requires : goal.print_row-requires
 unfolding total_windows
-print_row-requires g c = rw (c.part.ensures, c.part-2.ensures, c.emptied_segment.ensures) (lit< tt)
+print_row-requires g c = rw (c.part.ensures, c.part-2.ensures, c.emptied.ensures) (lit< tt)

@@ -2,7 +2,7 @@
 use mathlib.Core.Path.{◌≡◌}
 use mathlib.Core.Bool.{Bool}
 use mathlib.Core.List.{List}
-use Prim.Native.Nat.{ℕ, ◌+◌, ◌-◌, ◌≤◌}
+use Prim.Native.Nat.{ℕ, ◌+◌, ◌-◌, ◌≤◌, max}
 use lib.ListN.{get_or}
 use lib.Ieee.{Float, nan, le}
 use Rattle.laws.specs.Every.{every}
@@ -13,7 +13,4 @@ abbrev pub upward : List Float → ℕ → Bool
 upward centres k = le (get_or centres k nan) (get_or centres (k + 1) nan)
 
 abbrev pub invariant-loop-i : goal.invariant-loop-i
-invariant-loop-i l = (l.i ≤ l.frames - 1) × (l.sofar ≡ every (upward l.centres) l.i)
-
-abbrev pub decreases-loop-i : goal.decreases-loop-i
-decreases-loop-i l = l.frames - l.i
+invariant-loop-i l = (l.i ≤ max 1 l.frames) × (l.rising ≡ every (upward l.centres) (l.i - 1))

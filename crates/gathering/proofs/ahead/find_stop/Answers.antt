@@ -2,7 +2,8 @@
 use mathlib.Core.Bool.{not}
 use mathlib.Core.Path.{refl, ap}
 use borrow.Author.Tests.{not-true, not-false}
-use Rattle.laws.proofs.First.{first-again, first_out, first-end}
+use Rattle.laws.proofs.First.{first-again, first_out}
+use Rattle.gathering.proofs.Searches.{first-end-from}
 use Rattle.gathering.specs.inside.Ahead.{is_past, stop_of}
 use Rattle.gathering.proofs.ahead.find_stop.Goals as goal
 
@@ -28,4 +29,4 @@ pub returns : goal.returns
 unfolding stop_of
 returns c =
     let args = c.args in
-    rw (not-false args.ahead.rising c.if-not-ahead.false) (first-end (is_past args.centres.now args.end) args.ahead.frames c.loop-i.i c.loop-i.invariant c.loop-i-test.false)
+    rw (not-false args.ahead.rising c.if-not-ahead.false) (first-end-from (is_past args.centres.now args.end) args.ahead.frames args.ahead.from c.loop-i.i c.loop-i.invariant c.loop-i-test.false c.loop-i.auto.i-end c.max.ensures)

@@ -1,6 +1,7 @@
 -- The loop's invariant: the search goes on from i.
 use mathlib.Core.Path.{refl}
-use Rattle.laws.proofs.First.{first-again, first_out, first-end}
+use Rattle.laws.proofs.First.{first-again, first_out}
+use Rattle.gathering.proofs.Searches.{first-end-from}
 use Rattle.gathering.specs.inside.Ahead.{is_from, first_from}
 use Rattle.gathering.proofs.ahead.first_from.Goals as goal
 
@@ -22,4 +23,4 @@ pub returns : goal.returns
 unfolding first_from
 returns c =
     let args = c.args in
-    first-end (is_from args.centres.now args.start) args.ahead.frames c.loop-i.i c.loop-i.invariant c.loop-i-test.false
+    first-end-from (is_from args.centres.now args.start) args.ahead.frames args.ahead.from c.loop-i.i c.loop-i.invariant c.loop-i-test.false c.loop-i.auto.i-end c.max.ensures

@@ -9,6 +9,3 @@ abbrev pub invariant-loop-i : goal.invariant-loop-i
 invariant-loop-i l =
     let test = is_from l.centres l.start in
     first test (l.ahead.frames - l.i) l.i ≡ first test (l.ahead.frames - l.ahead.from) l.ahead.from
-
-abbrev pub decreases-loop-i : goal.decreases-loop-i
-decreases-loop-i l = l.ahead.frames - l.i

@@ -10,6 +10,7 @@ use Rattle.laws.proofs.Turns.{turns-again, turns-end}
 use Rattle.gathering.specs.Gather.{Heard, with_frame, heard, gather_turn, gathered_after, in_window}
 use Rattle.gathering.specs.declared.gather.Gathered.{Gathered}
 use Rattle.gathering.proofs.gather.gather_frames.Goals as goal
+use Rattle.gathering.proofs.gather.gather_frames.Goals.{then-is_within, else-is_within}
 
 -- what a turn makes of a frame within, and of any other
 module _ (h : Heard) (start end : Float) (i : ℕ) (g : Gathered) {flag : Bool} (told : flag ≡ in_window start end (get_or h.centres i nan)) where
@@ -28,22 +29,20 @@ pub loop-i-init : goal.loop-i-init
 unfolding gathered_after of_bits
 loop-i-init c = (omega arith, refl)
 
-pub loop-i-preserved-then-is_within : goal.loop-i-preserved-then-is_within
-loop-i-preserved-then-is_within c =
-    let asked = c.args in
-    let few : c.with_frame-gathered.result.frames ≤ c.loop-i.i + 1 = rw c.with_frame-gathered.ensures (omega arith) in (
-      few,
-      turns-again _ _ c.loop-i.i c.loop-i.invariant.1 c.loop-i-test.true
-          (counted (heard asked.stop asked.centres.now asked.values.now) asked.start asked.end c.loop-i.i c.loop-i.gathered c.is_within.ensures c.if-is_within.true c.with_frame-gathered.ensures),
-    )
-
 pub loop-i-preserved : goal.loop-i-preserved
 loop-i-preserved c =
-    let asked = c.args in (
-      omega arith,
-      turns-again _ _ c.loop-i.i c.loop-i.invariant.1 c.loop-i-test.true
-          (passed-by (heard asked.stop asked.centres.now asked.values.now) asked.start asked.end c.loop-i.i c.loop-i.gathered c.is_within.ensures c.if-is_within.false),
-    )
+    let asked = c.args in
+    let i = c.loop-i.i in
+    let g = c.loop-i.gathered in
+    let h = heard asked.stop asked.frames.centres.now asked.frames.values.now in
+    let turn : c.if-is_within.gathered ≡ gather_turn h asked.start asked.end i g =
+    elim c.if-is_within.branch [
+      | then-is_within w ↦ w.gathered-is ∙ counted h asked.start asked.end i g c.is_within.ensures w.if-is_within.true w.with_frame-gathered.ensures
+      | else-is_within w ↦ w.gathered-is ∙ passed-by h asked.start asked.end i g c.is_within.ensures w.if-is_within.false
+    ] in
+    let few : c.if-is_within.gathered.frames ≤ i + 1 =
+    elim c.if-is_within.branch [ then-is_within w ↦ rw (w.gathered-is, w.with_frame-gathered.ensures) (omega arith) | else-is_within w ↦ rw w.gathered-is (omega arith) ] in
+    (few, turns-again _ _ i c.loop-i.invariant.1 c.loop-i-test.true turn)
 
 pub returns : goal.returns
 returns c = turns-end _ _ c.loop-i.i c.loop-i.invariant.1 c.loop-i-test.false

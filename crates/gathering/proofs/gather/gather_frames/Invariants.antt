@@ -7,8 +7,5 @@ use Rattle.gathering.proofs.gather.gather_frames.Given as goal
 
 abbrev pub invariant-loop-i : goal.invariant-loop-i
 invariant-loop-i l =
-    let h = heard l.stop l.centres l.values in
+    let h = heard l.stop l.frames.centres.now l.frames.values.now in
     (l.gathered.frames ≤ l.i) × (turns (gather_turn h l.start l.end) (l.stop - l.i) l.i l.gathered ≡ gathered_after h l.from l.start l.end)
-
-abbrev pub decreases-loop-i : goal.decreases-loop-i
-decreases-loop-i l = l.stop - l.i

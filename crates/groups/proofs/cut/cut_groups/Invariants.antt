@@ -1,12 +1,8 @@
--- Each way through a turn is a law of `Cuts`.
-use Rattle.std.proofs.Common.{◌-◌}
-use Rattle.timeline.specs.inside.Estimates.{columns}
-use Rattle.timeline.specs.inside.Segments.{segment_rows}
+-- Each way through a turn is a law of `Cuts`; the rows keep their slices.
+use Rattle.timeline.specs.inside.Lent.{columns_lent, segments_lent, SameSegments}
 use Rattle.groups.proofs.Cuts.{Cut}
 use Rattle.groups.proofs.cut.cut_groups.Given as goal
 
 abbrev pub invariant-loop-j : goal.invariant-loop-j
-invariant-loop-j l = Cut (columns l.middles l.numbers l.certainties) l.threshold l.found (segment_rows l.initial.starts l.initial.ends l.initial.keys l.initial.confidences l.initial.counts) (segment_rows l.starts l.ends l.keys l.confidences l.counts) l.from l.start l.n l.j
-
-abbrev pub decreases-loop-j : goal.decreases-loop-j
-decreases-loop-j l = l.found - 1 - l.j
+invariant-loop-j l =
+    SameSegments l.initial.rows l.rows × Cut (columns_lent l.columns) l.threshold l.found (segments_lent l.initial.rows) (segments_lent l.rows) l.from l.start l.n l.j

@@ -1,16 +1,16 @@
 -- A confidence a turn, from -0.
-use Rattle.std.proofs.Common.{length, refl, arith}
+use Rattle.std.proofs.Common.{length, refl}
 use Rattle.laws.proofs.Turns.{turns-start, turns-again, turns-end}
 use lib.Ieee.{of_bits, neg}
 use Rattle.numbers.specs.Sum.{sum_of}
 use Rattle.groups.proofs.cut.sum_confidences.Goals as goal
 
-pub loop-i-init : goal.loop-i-init
+pub loop-confidence-init : goal.loop-confidence-init
 unfolding sum_of of_bits neg
-loop-i-init c = (omega arith, turns-start _ _ _)
+loop-confidence-init c = turns-start _ _ _
 
-pub loop-i-preserved : goal.loop-i-preserved
-loop-i-preserved c = (omega arith, turns-again _ (length c.args.confidences.now) c.loop-i.i c.loop-i.invariant.1 c.loop-i-test.true refl)
+pub loop-confidence-preserved : goal.loop-confidence-preserved
+loop-confidence-preserved c = turns-again _ (length c.args.confidences.now) c.loop-confidence.confidence-index c.loop-confidence.invariant c.loop-confidence-test.true refl
 
 pub returns : goal.returns
-returns c = turns-end _ (length c.args.confidences.now) c.loop-i.i c.loop-i.invariant.1 c.loop-i-test.false
+returns c = turns-end _ (length c.args.confidences.now) c.loop-confidence.confidence-index c.loop-confidence.invariant c.loop-confidence-test.false

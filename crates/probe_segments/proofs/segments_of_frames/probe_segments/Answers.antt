@@ -1,9 +1,12 @@
 -- Past the guard there is room for all that is located.
 use mathlib.Core.Bool.{not}
-use mathlib.Core.Path.{refl, ap}
+use mathlib.Core.Path.{refl, ap, ap₂, ◌∙◌}
+use borrow.Author.Rules.{rules}
 use Rattle.timeline.specs.inside.Estimates.{estimate_rows}
 use Rattle.timeline.specs.inside.Segments.{segment_rows}
-use Rattle.probe_segments.specs.Segments.{probed_track}
+use Rattle.timeline.proofs.Estimates.{same_estimates}
+use Rattle.timeline.proofs.Segments.{same_rows}
+use Rattle.probe_segments.specs.Segments.{probed_track, probed, counted}
 use Rattle.probe_segments.proofs.Segmenting.{not-run, locate-needs, located-so}
 use Rattle.probe_segments.proofs.segments_of_frames.probe_segments.Goals as goal
 
@@ -44,34 +47,8 @@ locate_segments-located-requires c =
     let args = c.args in
     locate-needs args.settings args.samples (probed_track args.settings args.samples args.key args.confidence) args.centres.now args.values.now (estimate_rows args.middles.now args.numbers.now args.certainties.now args.shapeless.now) (segment_rows args.starts.now args.ends.now args.keys.now args.confidences.now args.counts.now) c.span_of-span.ensures c.rows_asked-asked.ensures c.estimate_room-estimates.ensures c.segment_room-room.ensures c.can_run.ensures (ap not c.if-not-can_run.false) c.min-frames.ensures
 
-pub shape_of-middles : goal.shape_of-middles
-shape_of-middles c = c.middles-1.given
-
-pub shape_of-numbers : goal.shape_of-numbers
-shape_of-numbers c = c.numbers-1.given
-
-pub shape_of-certainties : goal.shape_of-certainties
-shape_of-certainties c = c.certainties-1.given
-
-pub shape_of-shapeless : goal.shape_of-shapeless
-shape_of-shapeless c = c.shapeless-1.given
-
-pub shape_of-starts : goal.shape_of-starts
-shape_of-starts c = c.starts-1.given
-
-pub shape_of-ends : goal.shape_of-ends
-shape_of-ends c = c.ends-1.given
-
-pub shape_of-keys : goal.shape_of-keys
-shape_of-keys c = c.keys-1.given
-
-pub shape_of-confidences : goal.shape_of-confidences
-shape_of-confidences c = c.confidences-1.given
-
-pub shape_of-counts : goal.shape_of-counts
-shape_of-counts c = c.counts-1.given
-
 pub returns : goal.returns
 returns c =
     let args = c.args in
-    located-so args.settings args.samples (probed_track args.settings args.samples args.key args.confidence) args.centres.now args.values.now (estimate_rows args.middles.now args.numbers.now args.certainties.now args.shapeless.now) (segment_rows args.starts.now args.ends.now args.keys.now args.confidences.now args.counts.now) c.span_of-span.ensures c.rows_asked-asked.ensures c.estimate_room-estimates.ensures c.segment_room-room.ensures c.can_run.ensures (ap not c.if-not-can_run.false) c.min-frames.ensures c.probed_track-track.ensures c.locate_segments-located.ensures
+    ap₂ (probed (counted 0 c.locate_segments-located.result.estimates c.locate_segments-located.result.segments)) (same_estimates (search rules) (search rules) (search rules) (search rules)) (same_rows (search rules) (search rules) (search rules) (search rules) (search rules))
+    ∙ located-so args.settings args.samples (probed_track args.settings args.samples args.key args.confidence) args.centres.now args.values.now (estimate_rows args.middles.now args.numbers.now args.certainties.now args.shapeless.now) (segment_rows args.starts.now args.ends.now args.keys.now args.confidences.now args.counts.now) c.span_of-span.ensures c.rows_asked-asked.ensures c.estimate_room-estimates.ensures c.segment_room-room.ensures c.can_run.ensures (ap not c.if-not-can_run.false) c.min-frames.ensures c.probed_track-track.ensures c.locate_segments-located.ensures.located

@@ -1,8 +1,10 @@
 -- Past both guards the estimates fit and all keys are numbers.
 use mathlib.Core.Bool.{not}
-use mathlib.Core.Path.{refl, ap}
+use mathlib.Core.Path.{refl, ap, ◌∙◌}
+use borrow.Author.Rules.{rules}
 use Rattle.timeline.specs.inside.Estimates.{columns}
-use Rattle.timeline.specs.inside.Segments.{segment_rows}
+use Rattle.timeline.specs.inside.Segments.{segment_rows, filled_rows}
+use Rattle.timeline.proofs.Segments.{same_rows}
 use Rattle.probe_segments.specs.Segments.{track_of}
 use Rattle.probe_segments.proofs.Segmenting.{not-fit, not-numbered, cut-needs, cut-so}
 use Rattle.probe_segments.proofs.segments_of_rows.probe_cut.Goals as goal
@@ -52,22 +54,8 @@ fill_segments-requires c =
     let args = c.args in
     cut-needs (track_of args.threshold args.minimum args.duration args.key args.confidence) (columns args.middles.now args.numbers.now args.certainties.now) (segment_rows args.starts.now args.ends.now args.keys.now args.confidences.now args.counts.now) c.segment_room-room.ensures c.cut_fits.ensures (ap not c.if-not-cut_fits.false) c.all_numbers.ensures (ap not c.if-not-all_numbers.false)
 
-pub shape_of-starts : goal.shape_of-starts
-shape_of-starts c = c.starts-1.given
-
-pub shape_of-ends : goal.shape_of-ends
-shape_of-ends c = c.ends-1.given
-
-pub shape_of-keys : goal.shape_of-keys
-shape_of-keys c = c.keys-1.given
-
-pub shape_of-confidences : goal.shape_of-confidences
-shape_of-confidences c = c.confidences-1.given
-
-pub shape_of-counts : goal.shape_of-counts
-shape_of-counts c = c.counts-1.given
-
 pub returns : goal.returns
 returns c =
     let args = c.args in
-    cut-so (track_of args.threshold args.minimum args.duration args.key args.confidence) (columns args.middles.now args.numbers.now args.certainties.now) (segment_rows args.starts.now args.ends.now args.keys.now args.confidences.now args.counts.now) c.segment_room-room.ensures c.cut_fits.ensures (ap not c.if-not-cut_fits.false) c.all_numbers.ensures (ap not c.if-not-all_numbers.false) c.track_of-track.ensures c.fill_segments.ensures
+    ap (filled_rows c.fill_segments.result) (same_rows (search rules) (search rules) (search rules) (search rules) (search rules))
+    ∙ cut-so (track_of args.threshold args.minimum args.duration args.key args.confidence) (columns args.middles.now args.numbers.now args.certainties.now) (segment_rows args.starts.now args.ends.now args.keys.now args.confidences.now args.counts.now) c.segment_room-room.ensures c.cut_fits.ensures (ap not c.if-not-cut_fits.false) c.all_numbers.ensures (ap not c.if-not-all_numbers.false) c.track_of-track.ensures c.fill_segments.ensures.filled

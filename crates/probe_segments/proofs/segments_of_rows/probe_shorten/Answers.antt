@@ -1,7 +1,9 @@
 -- Past the guard all keys are numbers and the counts fit.
 use mathlib.Core.Bool.{not}
-use mathlib.Core.Path.{refl, ap}
-use Rattle.timeline.specs.inside.Segments.{segment_rows}
+use mathlib.Core.Path.{refl, ap, ◌∙◌}
+use borrow.Author.Rules.{rules}
+use Rattle.timeline.specs.inside.Segments.{segment_rows, filled_rows}
+use Rattle.timeline.proofs.Segments.{same_rows}
 use Rattle.probe_segments.proofs.Segmenting.{not-shortened, shorten-needs, shortened}
 use Rattle.probe_segments.proofs.segments_of_rows.probe_shorten.Goals as goal
 
@@ -30,22 +32,8 @@ shorten_segments-requires c =
     let args = c.args in
     shorten-needs args.least (segment_rows args.starts.now args.ends.now args.keys.now args.confidences.now args.counts.now) c.segment_room-count.ensures c.can_shorten.ensures (ap not c.if-not-can_shorten.false)
 
-pub shape_of-starts : goal.shape_of-starts
-shape_of-starts c = c.starts-1.given
-
-pub shape_of-ends : goal.shape_of-ends
-shape_of-ends c = c.ends-1.given
-
-pub shape_of-keys : goal.shape_of-keys
-shape_of-keys c = c.keys-1.given
-
-pub shape_of-confidences : goal.shape_of-confidences
-shape_of-confidences c = c.confidences-1.given
-
-pub shape_of-counts : goal.shape_of-counts
-shape_of-counts c = c.counts-1.given
-
 pub returns : goal.returns
 returns c =
     let args = c.args in
-    shortened args.least (segment_rows args.starts.now args.ends.now args.keys.now args.confidences.now args.counts.now) c.segment_room-count.ensures c.can_shorten.ensures (ap not c.if-not-can_shorten.false) c.shorten_segments.ensures
+    ap (filled_rows c.shorten_segments.result) (same_rows (search rules) (search rules) (search rules) (search rules) (search rules))
+    ∙ shortened args.least (segment_rows args.starts.now args.ends.now args.keys.now args.confidences.now args.counts.now) c.segment_room-count.ensures c.can_shorten.ensures (ap not c.if-not-can_shorten.false) c.shorten_segments.ensures.filled

@@ -1,11 +1,7 @@
--- A row a turn: each law stands in `Empties`.
-use Prim.Native.Nat.{◌-◌}
-use Rattle.timeline.specs.inside.Segments.{segment_rows}
+-- A row a turn: each law stands in `Empties`; the rows keep their slices.
+use Rattle.timeline.specs.inside.Lent.{segments_lent, SameSegments}
 use Rattle.shortening.proofs.Empties.{Emptying}
 use Rattle.shortening.proofs.shorten.empty_rows.Given as goal
 
 abbrev pub invariant-loop-i : goal.invariant-loop-i
-invariant-loop-i l = Emptying l.from l.count (segment_rows l.initial.starts l.initial.ends l.initial.keys l.initial.confidences l.initial.counts) (segment_rows l.starts l.ends l.keys l.confidences l.counts) l.i
-
-abbrev pub decreases-loop-i : goal.decreases-loop-i
-decreases-loop-i l = l.count - l.i
+invariant-loop-i l = SameSegments l.initial.rows l.rows × Emptying l.from l.count (segments_lent l.initial.rows) (segments_lent l.rows) l.i

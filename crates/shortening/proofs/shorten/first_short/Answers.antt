@@ -6,10 +6,10 @@ pub loop-i-init : goal.loop-i-init
 loop-i-init c = searched-start _ _ _ _
 
 pub loop-i-preserved : goal.loop-i-preserved
-loop-i-preserved c = searched-again c.loop-i.invariant c.if-i-count.false c.is_short_row.ensures c.if-is_short_row.false
+loop-i-preserved c = searched-again c.loop-i.invariant c.if-i-count.false c.is_short.ensures c.if-is_short.false
 
 pub returns-then-i-count : goal.returns-then-i-count
 returns-then-i-count c = searched-end c.loop-i.invariant c.if-i-count.true
 
-pub returns-then-is_short_row : goal.returns-then-is_short_row
-returns-then-is_short_row c = searched-out c.loop-i.invariant c.if-i-count.false c.is_short_row.ensures c.if-is_short_row.true
+pub returns-then-is_short : goal.returns-then-is_short
+returns-then-is_short c = searched-out c.loop-i.invariant c.if-i-count.false c.is_short.ensures c.if-is_short.true

@@ -1,22 +1,9 @@
--- The run's start, a turn and its end are laws of `Runs`.
-use Rattle.std.proofs.Common.{◌-◌}
-use Rattle.gathering.specs.Gather.{heard}
-use Rattle.timeline.specs.inside.Estimates.{estimate_rows}
+-- The run's start, a turn and its end are laws of `Runs`; the rows keep their slices.
+use Rattle.gathering.specs.inside.Lent.{frames_lent}
+use Rattle.timeline.specs.inside.Lent.{estimates_lent, SameEstimates}
 use Rattle.windows.proofs.Runs.{Reached}
 use Rattle.windows.proofs.run.fill_estimates.Given as goal
 
-abbrev pub invariant-loop-k : goal.invariant-loop-k
-invariant-loop-k l =
-    Reached
-    l.span
-    (heard l.frames l.centres l.values)
-    l.windows
-    (estimate_rows l.initial.middles l.initial.keys l.initial.confidences l.initial.shapeless)
-    (estimate_rows l.middles l.keys l.confidences l.shapeless)
-    l.ahead
-    l.start
-    l.k
-    l.n
-
-abbrev pub decreases-loop-k : goal.decreases-loop-k
-decreases-loop-k l = l.windows - l.k
+abbrev pub invariant-loop : goal.invariant-loop
+invariant-loop l =
+    SameEstimates l.initial.rows l.rows × Reached l.span (frames_lent l.frames) l.windows (estimates_lent l.initial.rows) (estimates_lent l.rows) l.ahead l.start l.counter l.n

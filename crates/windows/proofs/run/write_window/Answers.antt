@@ -1,8 +1,9 @@
 -- A case of the definition for each way out.
-use Rattle.std.proofs.Common.{◌≡◌, ℕ, ◌+◌, Bool, true, false, cond, eqb, sym, ap, ◌∙◌, arith, eq-eqb, ne_eqb}
+use Rattle.std.proofs.Common.{◌≡◌, ℕ, ◌+◌, Bool, true, false, cond, eqb, sym, ap, ◌∙◌, eq-eqb, ne_eqb}
 use lib.Ieee.{Float, binary64, add, of_bits}
 use Rattle.laws.specs.Convert.{half}
-use Rattle.gathering.specs.Gather.{Heard, heard, gathered_of}
+use Rattle.gathering.specs.Gather.{Heard, gathered_of}
+use Rattle.gathering.specs.inside.Lent.{frames_lent}
 use Rattle.timeline.specs.Estimates.{EstimateRows}
 use Rattle.timeline.specs.inside.Estimates.{put_estimate}
 use Rattle.windows.specs.Estimates.{estimate_of}
@@ -27,16 +28,13 @@ module _ (s : Span) (h : Heard) (start : Float) (n : ℕ) (before : EstimateRows
       let found : e ≡ estimate_from s h start = same ∙ ap (λ (x : Gathered). estimate_of (add binary64 start (half binary64 s.window)) x.chroma) told in
       ap (wrote (n + 1)) (put ∙ ap (λ (x : Estimate). put_estimate x n before) found) ∙ ap either (sym t ∙ ap (λ (x : Gathered). eqb x.frames 0) told)
 
-pub returns-then-found-eq0 : goal.returns-then-found-eq0
-returns-then-found-eq0 c =
+pub returns-then-found-eq0-clause-written : goal.returns-then-found-eq0-clause-written
+returns-then-found-eq0-clause-written c =
     let asked = c.args in
-    left-silent asked.span (heard asked.ahead.frames asked.centres.now asked.values.now) asked.start asked.n _ c.gather_window-found.ensures (eq-eqb _ _ c.if-found-eq0.true)
+    left-silent asked.span (frames_lent asked.frames) asked.start asked.n _ c.gather_window-found.ensures (eq-eqb _ _ c.if-found-eq0.true)
 
-pub overflow_add-result : goal.overflow_add-result
-overflow_add-result c = omega (arith, c.requires, c.ranges)
-
-pub returns : goal.returns
+pub returns-clause-written : goal.returns-clause-written
 unfolding of_bits
-returns c =
+returns-clause-written c =
     let asked = c.args in
-    left-written asked.span (heard asked.ahead.frames asked.centres.now asked.values.now) asked.start asked.n _ c.gather_window-found.ensures (ne_eqb _ _ c.if-found-eq0.false) c.estimate_of-estimate.ensures c.put_estimate.ensures
+    left-written asked.span (frames_lent asked.frames) asked.start asked.n _ c.gather_window-found.ensures (ne_eqb _ _ c.if-found-eq0.false) c.estimate_of.ensures c.put.ensures.rows

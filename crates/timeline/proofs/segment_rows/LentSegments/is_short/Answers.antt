@@ -2,8 +2,8 @@
 use mathlib.Core.Path.{ap}
 use lib.Ieee.{Float, lt}
 use Rattle.timeline.specs.inside.Segments.{short_in}
-use Rattle.timeline.proofs.segment.is_short_row.Goals as goal
+use Rattle.timeline.proofs.segment_rows.LentSegments.is_short.Goals as goal
 
 pub returns : goal.returns
 unfolding short_in lt
-returns c = ap (λ (x : Float). lt x c.args.least) c.row_seconds.ensures
+returns c = ap (λ (x : Float). lt x c.args.least) c.seconds.ensures

@@ -3,10 +3,10 @@ use mathlib.Core.Path.{ap₂}
 use Prim.Native.Nat.{◌+◌}
 use lib.Ieee.{Float}
 use Rattle.timeline.specs.Segments.{segment, joined}
-use Rattle.timeline.proofs.segment.join_segments.Goals as goal
+use Rattle.timeline.proofs.segment.Segment.joined.Goals as goal
 
 pub returns : goal.returns
 unfolding joined
 returns c =
     let args = c.args in
-    ap₂ (λ (x y : Float). segment x y args.earlier.key args.earlier.confidence (args.earlier.windows + args.later.windows)) c.smaller.ensures c.larger.ensures
+    ap₂ (λ (x y : Float). segment x y args.self.key args.self.confidence (args.self.windows + args.later.windows)) c.smaller.ensures c.larger.ensures

@@ -2,7 +2,7 @@
 use lib.Ieee.{sub}
 use Rattle.timeline.specs.inside.Segments.{seconds_in}
 use borrow.Author.Rules.{rules}
-use Rattle.timeline.proofs.stretches.LentStretches.seconds.Goals as goal
+use Rattle.timeline.proofs.segment_rows.LentSegments.seconds.Goals as goal
 
 pub returns : goal.returns
 unfolding seconds_in sub

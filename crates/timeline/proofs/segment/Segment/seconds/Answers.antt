@@ -2,7 +2,7 @@
 use borrow.Author.Rules.{rules}
 use lib.Ieee.{sub}
 use Rattle.timeline.specs.Segments.{seconds}
-use Rattle.timeline.proofs.segment.segment_seconds.Goals as goal
+use Rattle.timeline.proofs.segment.Segment.seconds.Goals as goal
 
 pub returns : goal.returns
 unfolding seconds sub

@@ -1,7 +1,0 @@
--- What the calls ensure, put together.
-use Rattle.timeline.specs.Segments.{segment_in}
-use Rattle.timeline.proofs.segment.segment_at.Goals as goal
-
-pub returns : goal.returns
-unfolding segment_in
-returns c = cc
