@@ -5,6 +5,10 @@ use Rattle.std.specs.Float.Ieee.{to_bits}
 use Rattle.laws.specs.Every.{every}
 use Rattle.replayed.specs.Records.{word_at, value_at, same_value}
 
+-- entries end to end, each of them in so many bytes; d is read nowhere
+abbrev pub same_entries : {A : Type 0} → (List ℕ → ℕ → A → Bool) → ℕ → A → List ℕ → ℕ → List A → Bool
+same_entries same size d bytes at xs = every (λ (i : ℕ). same bytes (at + size * i) (get_or xs i d)) (length xs)
+
 -- the first values, by their patterns
 abbrev pub same_among : List ℕ → ℕ → List Float → ℕ → Bool
 same_among bytes at xs count = every (λ (i : ℕ). same_value (get_or xs i nan) (value_at bytes (at + 4 * i))) count

@@ -7,9 +7,7 @@ ghost use Rattle.rooms.specs.Lent.{lent_all};
 ghost use Rattle.loud_frames.specs.Loud.{analyse_outcome};
 ghost use Rattle.stored_analyses.specs.Outcome.{Sized, same_answer, same_frames, same_estimates, same_segments, same_outcome};
 
-use crate::rows::{
-    chroma_agrees, chromas_agree, counts_agree, numbers_agree, times_agree, values_agree,
-};
+use crate::rows::{Stored, entries_agree};
 use answers::answer::AnalyseResult;
 
 // Whether this is the answer from `at` on.
@@ -18,21 +16,21 @@ fn answer_agrees(bytes: &[u8], at: usize, answer: AnalyseResult) -> bool
     ensures { result ≡ same_answer bytes.now at answer }
 {
     let numbers = [
-        answer.refusal as u64,
+        u64::from(answer.refusal),
         answer.position,
-        answer.key as u64,
-        answer.dsp_key as u64,
-        answer.alternate as u64,
+        u64::from(answer.key),
+        u64::from(answer.dsp_key),
+        u64::from(answer.alternate),
         answer.frames,
         answer.estimates,
         answer.segments,
-        answer.shapeless as u64,
+        u64::from(answer.shapeless),
     ];
     let values = [answer.coverage, answer.confidence];
     let chroma = answer.chroma;
-    counts_agree(bytes, at, &numbers)
-        & values_agree(bytes, at + 36, &values)
-        & chroma_agrees(bytes, at + 44, &chroma)
+    entries_agree(bytes, at, &numbers)
+        & entries_agree(bytes, at + 36, &values)
+        & chroma.agrees(bytes, at + 44)
 }
 
 // Whether these are the frame rows and work numbers from `at` on.
@@ -47,10 +45,10 @@ fn frames_agree(
     requires { (at + 512 ≤ length bytes.now) × (length centres.now ≡ 8) × (length values.now ≡ 8) × (length energies.now ≡ 8) × (length work.now ≡ 8) }
     ensures { result ≡ same_frames bytes.now at (lent_rows centres.now values.now energies.now) work.now }
 {
-    times_agree(bytes, at, centres)
-        & chromas_agree(bytes, at + 64, values)
-        & values_agree(bytes, at + 448, energies)
-        & values_agree(bytes, at + 480, work)
+    entries_agree(bytes, at, centres)
+        & entries_agree(bytes, at + 64, values)
+        & entries_agree(bytes, at + 448, energies)
+        & entries_agree(bytes, at + 480, work)
 }
 
 // Whether these are the estimates from `at` on.
@@ -65,24 +63,10 @@ fn estimates_agree(
     requires { (at + 100 ≤ length bytes.now) × (length middles.now ≡ 5) × (length numbers.now ≡ 5) × (length certainties.now ≡ 5) × (length shapeless.now ≡ 5) }
     ensures { result ≡ same_estimates bytes.now at (lent_estimates middles.now numbers.now certainties.now shapeless.now) }
 {
-    times_agree(bytes, at, middles)
-        & numbers_agree(bytes, at + 40, numbers)
-        & values_agree(bytes, at + 60, certainties)
-        & numbers_agree(bytes, at + 80, shapeless)
-}
-
-// The counts of five segments, as numbers of 64 bits.
-fn widened(counts: &[u32]) -> [u64; 5]
-    requires { length counts.now ≡ 5 }
-    ensures { result ≡ counts.now }
-{
-    [
-        counts[0] as u64,
-        counts[1] as u64,
-        counts[2] as u64,
-        counts[3] as u64,
-        counts[4] as u64,
-    ]
+    entries_agree(bytes, at, middles)
+        & entries_agree(bytes, at + 40, numbers)
+        & entries_agree(bytes, at + 60, certainties)
+        & entries_agree(bytes, at + 80, shapeless)
 }
 
 // Whether these are the segments from `at` on.
@@ -98,12 +82,11 @@ fn segments_agree(
     requires { (at + 140 ≤ length bytes.now) × (length starts.now ≡ 5) × (length ends.now ≡ 5) × (length keys.now ≡ 5) × (length confidences.now ≡ 5) × (length counts.now ≡ 5) }
     ensures { result ≡ same_segments bytes.now at (lent_segments starts.now ends.now keys.now confidences.now counts.now) }
 {
-    let windows = widened(counts);
-    times_agree(bytes, at, starts)
-        & times_agree(bytes, at + 40, ends)
-        & numbers_agree(bytes, at + 80, keys)
-        & values_agree(bytes, at + 100, confidences)
-        & counts_agree(bytes, at + 120, &windows)
+    entries_agree(bytes, at, starts)
+        & entries_agree(bytes, at + 40, ends)
+        & entries_agree(bytes, at + 80, keys)
+        & entries_agree(bytes, at + 100, confidences)
+        & entries_agree(bytes, at + 120, counts)
 }
 
 // Whether this is what the record says that a call answers and leaves.

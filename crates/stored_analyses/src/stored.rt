@@ -10,10 +10,8 @@ pub fn read_values(bytes: &[u8], at: usize, values: &mut [f32])
     requires { at + 4 * length values.old ≤ length bytes.now }
     ensures { values.new ≡ values_at bytes.now at (length values.old) }
 {
-    let mut i = 0;
-    while i < values.len() {
+    for i in 0..values.len() {
         values[i] = value_at(bytes, at + 4 * i);
-        i += 1;
     }
 }
 
@@ -22,10 +20,8 @@ pub fn read_numbers(bytes: &[u8], at: usize, numbers: &mut [u32])
     requires { at + 4 * length numbers.old ≤ length bytes.now }
     ensures { numbers.new ≡ numbers_at bytes.now at (length numbers.old) }
 {
-    let mut i = 0;
-    while i < numbers.len() {
+    for i in 0..numbers.len() {
         numbers[i] = word_at(bytes, at + 4 * i);
-        i += 1;
     }
 }
 

@@ -1,5 +1,4 @@
 -- The callees' definitions, put together.
-use borrow.Author.Rules.{rules}
 use Rattle.stored_analyses.specs.Outcome.{same_outcome}
 use Rattle.stored_analyses.proofs.outcome.outcome_agrees.Goals as goal
 
