@@ -4,12 +4,13 @@ use mathlib.Core.Path.{◌≡◌, sym, ap, ap₂, ◌∙◌}
 use mathlib.Core.Bool.{Bool, ◌||◌}
 use lib.Dec.{ltb}
 use lib.ListN.{length}
+use Rattle.std.specs.Prelude.{None, Some, Ok, Err}
 use Rattle.laws.specs.Table.{any_of}
 use Rattle.calls.specs.Call.{Call, positions_of}
 use Rattle.calls.specs.Rows.{room_in}
-use Rattle.checks.specs.Checks.{checked}
-use Rattle.checks.specs.declared.Checked.{Checked}
-use Rattle.checks.specs.declared.Checked.TheVariants.{Refused, Empty, Go}
+use Rattle.checks.specs.Checks.{Checked, checked}
+use Rattle.checks.specs.Refusals.{number_of}
+use Rattle.checks.specs.declared.refusal.Refusal.{Refusal}
 use Rattle.timeline.specs.Estimates.{estimate_room}
 use Rattle.timeline.specs.Segments.{segment_room}
 use Rattle.windows.specs.Span.{span_of, rows_asked}
@@ -39,11 +40,11 @@ module _ (c : Call) (l : Lent) where
   pub table-says : {flag crowded : Bool} {answer known : Checked} → flag ≡ hasty c.settings → crowded ≡ any_of (too_small c.settings (length c.samples) l) → answer ≡ checked c flag crowded → answer ≡ known → table_of c l ≡ known
   table-says f p e k = sym (ap₂ (checked c) f p) ∙ sym e ∙ k
 
-  pub refused-so : {n : ℕ} {r : AnalyseResult} → table_of c l ≡ Refused n → r ≡ keyless n 0 0 → analyse_outcome r l ≡ analysed c l
-  refused-so t e = ap (λ (a : AnalyseResult). analyse_outcome a l) e ∙ ap (after_checks c l) (sym t)
+  pub refused-so : {refusal : Refusal} {n : ℕ} {r : AnalyseResult} → table_of c l ≡ Err refusal → n ≡ number_of refusal → r ≡ keyless n 0 0 → analyse_outcome r l ≡ analysed c l
+  refused-so t m e = ap (λ (a : AnalyseResult). analyse_outcome a l) (e ∙ ap (λ (k : ℕ). keyless k 0 0) m) ∙ ap (after_checks c l) (sym t)
 
-  pub empty-so : {r : AnalyseResult} → table_of c l ≡ Empty → r ≡ keyless 0 0 0 → analyse_outcome r l ≡ analysed c l
+  pub empty-so : {r : AnalyseResult} → table_of c l ≡ Ok None → r ≡ keyless 0 0 0 → analyse_outcome r l ≡ analysed c l
   empty-so t e = ap (λ (a : AnalyseResult). analyse_outcome a l) e ∙ ap (after_checks c l) (sym t)
 
-  pub goes_so : {n : ℕ} {o : AnalyseOutcome} → table_of c l ≡ Go n → o ≡ positions_analysed c n l → o ≡ analysed c l
+  pub goes_so : {n : ℕ} {o : AnalyseOutcome} → table_of c l ≡ Ok (Some n) → o ≡ positions_analysed c n l → o ≡ analysed c l
   goes_so t e = e ∙ ap (after_checks c l) (sym t)

@@ -4,12 +4,12 @@ use Prim.Native.Nat.{ℕ, ◌<◌}
 use native.Mathlib.Omega.{arith}
 use borrow.Author.Tests.{ltb-false}
 use lib.ListN.{length}
+use Rattle.std.specs.Prelude.{Some, Ok}
 use Rattle.laws.specs.Table.{any_of}
 use Rattle.laws.proofs.Table.{none_of}
 use Rattle.laws.proofs.Zero.{above-clear}
 use Rattle.calls.specs.Call.{Call, positions_of}
 use Rattle.calls.specs.Rows.{room_in}
-use Rattle.checks.specs.declared.Checked.TheVariants.{Go}
 use Rattle.checks.proofs.Passed.{passed}
 use Rattle.frames.proofs.Passes.{ready}
 use Rattle.timeline.specs.Estimates.{estimate_room}
@@ -22,7 +22,7 @@ use Rattle.rooms.specs.Room.{hasty, too_small}
 use Rattle.positions.specs.inside.Supplied.{Supplied}
 use Rattle.analysis.specs.Analyse.{table_of}
 
-pub supplied : (c : Call) (l : Lent) (positions : ℕ) → c.sheet.head.maximum_midi_note < 256 → table_of c l ≡ Go positions → Supplied c positions l
+pub supplied : (c : Call) (l : Lent) (positions : ℕ) → c.sheet.head.maximum_midi_note < 256 → table_of c l ≡ Ok (Some positions) → Supplied c positions l
 unfolding span_of
 supplied c l positions note e =
     let s = c.settings in

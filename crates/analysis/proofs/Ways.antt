@@ -4,11 +4,12 @@ use mathlib.Core.List.{List, map}
 use Prim.Native.Nat.{ℕ}
 use lib.Dec.{ltb, eqb}
 use lib.ListN.{length}
+use Rattle.std.specs.Prelude.{None, Some, Ok, Err}
 use Rattle.laws.proofs.Cases.{by-test}
 use Rattle.calls.specs.Call.{Call}
 use Rattle.calls.specs.declared.Settings.{Settings}
-use Rattle.checks.specs.declared.Checked.{Checked}
-use Rattle.checks.specs.declared.Checked.TheVariants.{Refused, Empty, Go}
+use Rattle.checks.specs.Checks.{Checked}
+use Rattle.checks.specs.Refusals.{number_of}
 use Rattle.timeline.specs.Segments.{segments_in, holding_segments}
 use Rattle.windows.specs.Span.{span_of}
 use Rattle.windows.specs.Run.{estimates_of}
@@ -57,10 +58,10 @@ module _ (c : Call) (P : AnalyseOutcome → Type 0) (keyless-has : (refusal posi
       let held = with_frames (holding_frames found l.frames) l in
       by-test P (ltb k positions) (λ _. keyless-has 9 k (length found) held) (λ _. loud-has report-has found held)
 
-  pub analysed-has : (l : Lent) → ((positions : ℕ) → table_of c l ≡ Go positions → Reports) → P (analysed c l)
+  pub analysed-has : (l : Lent) → ((positions : ℕ) → table_of c l ≡ Ok (Some positions) → Reports) → P (analysed c l)
   analysed-has l report-has = go (table_of c l) refl
     where
       go : (checks : Checked) → table_of c l ≡ checks → P (after_checks c l checks)
-      go (Refused n) e = keyless-has n 0 0 l
-      go Empty e = keyless-has 0 0 0 l
-      go (Go positions) e = positions-have (report-has positions e) positions l
+      go (Err refusal) e = keyless-has (number_of refusal) 0 0 l
+      go (Ok None) e = keyless-has 0 0 0 l
+      go (Ok (Some positions)) e = positions-have (report-has positions e) positions l

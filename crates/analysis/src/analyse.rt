@@ -6,24 +6,25 @@ ghost use Rattle.loud_frames.specs.Loud.{analyse_outcome};
 ghost use Rattle.analysis.specs.Analyse.{analysed};
 
 use answers::answer::{AnalyseResult, keyless};
+use calls::sheet::{LentCall, LentSheet};
 use calls::{Settings, SheetHead};
-use checks::{Checked, check, fewest};
+use checks::{check, fewest};
 use positions::run::analyse_positions;
 use rooms::{frame_room, is_hasty, rows_lack};
 use timeline::estimate::estimate_room;
 use timeline::segment::segment_room;
 
 // The Rust's `analyze` without its reranker.
-pub fn analyse(
+pub fn analyse<'a>(
     settings: Settings,
     head: SheetHead,
-    samples: &[f32],
-    window: &[f32],
-    coefficients: &[f32],
-    weights: &[f32],
-    lengths: &[u32],
-    qcoefficients: &[f32],
-    qwindows: &[f32],
+    samples: &'a [f32],
+    window: &'a [f32],
+    coefficients: &'a [f32],
+    weights: &'a [f32],
+    lengths: &'a [u32],
+    qcoefficients: &'a [f32],
+    qwindows: &'a [f32],
     centres: &mut [f64],
     values: &mut [[f32; 12]],
     energies: &mut [f32],
@@ -45,23 +46,24 @@ pub fn analyse(
     let segments = segment_room(starts, ends, keys, confidences, counts);
     let few = rows_lack(settings, samples.len(), estimates, segments);
     let room = frame_room(rows, work.len());
-    match check(
-        settings,
+    let sheet = LentSheet {
         head,
-        samples,
         window,
-        coefficients,
-        weights,
-        lengths,
-        qcoefficients,
-        qwindows,
-        is_hasty(settings),
-        few,
-        room,
-    ) {
-        Checked::Refused(number) => keyless(number, 0, 0),
-        Checked::Empty => keyless(0, 0, 0),
-        Checked::Go(positions) => analyse_positions(
+        goertzel_coefficients: coefficients,
+        goertzel_weights: weights,
+        constant_q_lengths: lengths,
+        constant_q_coefficients: qcoefficients,
+        constant_q_windows: qwindows,
+    };
+    let call = LentCall {
+        settings,
+        samples,
+        sheet,
+    };
+    match check(call, is_hasty(settings), few, room) {
+        Err(refusal) => keyless(u32::from(refusal), 0, 0),
+        Ok(None) => keyless(0, 0, 0),
+        Ok(Some(positions)) => analyse_positions(
             settings,
             head,
             samples,

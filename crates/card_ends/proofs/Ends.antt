@@ -7,14 +7,14 @@ use lib.Dec.{T, lit<}
 use lib.ListN.{length, get_or, length-take}
 use lib.Seq.{get_or-take}
 use lib.Ieee.{Float, nan, binary64, le}
+use Rattle.std.specs.Prelude.{None, Some, Ok, Err}
 use Rattle.laws.specs.Table.{any_of}
 use Rattle.laws.specs.Convert.{parts}
 use Rattle.laws.proofs.Order.{le_trans}
 use Rattle.laws.proofs.Front.{length-list, get_or-list}
 use Rattle.calls.specs.declared.Settings.{Settings}
 use Rattle.calls.specs.Call.{Call, Typed, seconds_at, longest_track}
-use Rattle.checks.specs.declared.Checked.{Checked}
-use Rattle.checks.specs.declared.Checked.TheVariants.{Refused, Empty, Go}
+use Rattle.checks.specs.Checks.{Checked}
 use Rattle.checks.proofs.Passed.{passed}
 use Rattle.timeline.specs.Segments.{segment_at, segment_in}
 use Rattle.timeline.specs.Tiling.{Time, Tiles}
@@ -49,9 +49,9 @@ unfolding keyless
 lasting c lent = go (table_of c lent) refl
   where
     go : (checks : Checked) → table_of c lent ≡ checks → (after_checks c lent checks).answer.key < 24 → Lasting longest_track c.settings (length c.samples)
-    go (Refused n) e h = absurd (omega (arith, h))
-    go Empty e h = absurd (omega (arith, h))
-    go (Go positions) e h =
+    go (Err refusal) e h = absurd (omega (arith, h))
+    go (Ok None) e h = absurd (omega (arith, h))
+    go (Ok (Some positions)) e h =
         let p = passed c (hasty c.settings) (any_of (too_small c.settings (length c.samples) lent)) positions e in
         record { rated = p.worthwhile.rated; slow = p.slow; short = p.short }
 

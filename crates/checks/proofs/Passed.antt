@@ -14,9 +14,8 @@ use Rattle.laws.proofs.Table.{none_of, each_of, fell-through}
 use Rattle.calls.specs.Call.{Call, longest_track, positions_of}
 use Rattle.calls.specs.declared.Settings.{Settings}
 use Rattle.sheets.specs.Sheet.{matches_call, well_formed}
-use Rattle.checks.specs.Checks.{all_finite, reasons, nothing_to_do, too_large, table, checked}
-use Rattle.checks.specs.declared.Checked.{Checked}
-use Rattle.checks.specs.declared.Checked.TheVariants.{Refused, Empty, Go}
+use Rattle.std.specs.Prelude.{None, Some, Ok, Err}
+use Rattle.checks.specs.Checks.{all_finite, reasons, nothing_to_do, too_large, Checked, table, checked}
 
 -- there is something to do
 pub record Worth (s : Settings) (count : ℕ) : Type 0 where
@@ -74,18 +73,18 @@ pub record Passed (c : Call) (hasty crowded : Bool) (positions : ℕ) : Type 0 w
   pub roomy : crowded ≡ false
 
 abbrev goes : Checked → Bool
-goes (Refused n) = false
-goes Empty = false
-goes (Go p) = true
+goes (Err r) = false
+goes (Ok None) = false
+goes (Ok (Some p)) = true
 
-go-is : {m p : ℕ} → Go m ≡ Go p → p ≡ m
+go-is : {m p : ℕ} → ◌≡◌ {A = Checked} (Ok (Some m)) (Ok (Some p)) → p ≡ m
 go-is e = cc
 
-pub passed : (c : Call) (hasty crowded : Bool) (positions : ℕ) → checked c hasty crowded ≡ Go positions → Passed c hasty crowded positions
+pub passed : (c : Call) (hasty crowded : Bool) (positions : ℕ) → checked c hasty crowded ≡ Ok (Some positions) → Passed c hasty crowded positions
 unfolding checked
 passed c hasty crowded positions e =
     let all = positions_of c.settings (length c.samples) in
-    let f = fell-through goes (table c hasty crowded) (Go all) refl refl e in
+    let f = fell-through goes (table c hasty crowded) (Ok (Some all)) refl refl e in
     let many : positions ≡ all = go-is f.below in
     record {
       many = many;

@@ -1,5 +1,5 @@
 -- The check table: document 01's rows, and number 13 of document 02. Definitions only.
-use Rattle.std.specs.Prelude.{ℕ, ◌*◌, Bool, not, List, [], ◌∷◌, length, ltb, eqb}
+use Rattle.std.specs.Prelude.{ℕ, ◌*◌, Bool, not, List, [], ◌∷◌, length, ltb, eqb, Option, None, Some, Result, Ok, Err}
 use Rattle.std.specs.Float.Ieee.{lt}
 use Rattle.std.specs.Float.Ieee.Scale.{finite}
 use Rattle.laws.specs.Table.{Check, ◌gives◌, first_of, any_of, all_of}
@@ -7,8 +7,8 @@ use Rattle.laws.specs.Values.{plus_zero}
 use Rattle.calls.specs.Call.{Call, longest_track, positions_of}
 use Rattle.calls.specs.declared.Settings.{Settings}
 use Rattle.sheets.specs.Sheet.{matches_call, well_formed}
-use Rattle.checks.specs.declared.Checked.{Checked}
-use Rattle.checks.specs.declared.Checked.TheVariants.{Refused, Empty, Go}
+use Rattle.checks.specs.declared.refusal.Refusal.{Refusal}
+use Rattle.checks.specs.declared.refusal.Refusal.TheVariants.{RateTooHigh, FrameOrHopTooLarge, SettingNotFinite, EngineUnknown, TrackTooLong, HopTooShort, SheetOfAnotherCall, SheetNotWellFormed, RoomTooSmall}
 
 -- the five f32 settings are finite
 unfoldable pub all_finite : Settings → Bool
@@ -41,23 +41,27 @@ nothing_to_do s count = any_of (reasons s count)
 abbrev pub too_large : Settings → List Bool
 too_large s = ltb 65_536 s.frame_size ∷ ltb 1_048_576 s.hop_size ∷ []
 
+-- what the table says of a call: refused, the Rust's empty answer, or as many frame positions to go through
+abbrev pub Checked : Type 0
+Checked = Result (Option ℕ) Refusal
+
 -- the table from the top; whether rows 5 and 8 apply is the call's own to say
 abbrev pub table : Call → Bool → Bool → List (Check Checked)
 table c hasty crowded =
     let s = c.settings in
     let count = length c.samples in
-    (ltb 192_000 s.rate gives Refused 1)
-    ∷ (any_of (too_large s) gives Refused 2)
-    ∷ (not (all_finite s) gives Refused 3)
-    ∷ (ltb 1 s.engine gives Refused 13)
-    ∷ (nothing_to_do s count gives Empty)
-    ∷ (ltb (longest_track * s.rate) count gives Refused 4)
-    ∷ (hasty gives Refused 5)
-    ∷ (not (matches_call s c.sheet.head) gives Refused 6)
-    ∷ (not (well_formed c.sheet) gives Refused 7)
-    ∷ (crowded gives Refused 8)
+    (ltb 192_000 s.rate gives Err RateTooHigh)
+    ∷ (any_of (too_large s) gives Err FrameOrHopTooLarge)
+    ∷ (not (all_finite s) gives Err SettingNotFinite)
+    ∷ (ltb 1 s.engine gives Err EngineUnknown)
+    ∷ (nothing_to_do s count gives Ok None)
+    ∷ (ltb (longest_track * s.rate) count gives Err TrackTooLong)
+    ∷ (hasty gives Err HopTooShort)
+    ∷ (not (matches_call s c.sheet.head) gives Err SheetOfAnotherCall)
+    ∷ (not (well_formed c.sheet) gives Err SheetNotWellFormed)
+    ∷ (crowded gives Err RoomTooSmall)
     ∷ []
 
 -- the first row that applies decides; a call that none applies to goes through its frame positions
 unfoldable pub checked : Call → Bool → Bool → Checked
-checked c hasty crowded = first_of (table c hasty crowded) (Go (positions_of c.settings (length c.samples)))
+checked c hasty crowded = first_of (table c hasty crowded) (Ok (Some (positions_of c.settings (length c.samples))))

@@ -2,22 +2,17 @@
 #![tactic(auto)]
 
 ghost use Rattle.std.specs.Prelude.{◌≡◌, ◌<◌, ◌≤◌, min, ◌||◌, ltb, length};
-ghost use Rattle.calls.specs.Call.{given, positions_of};
+ghost use Rattle.calls.specs.Call.{positions_of};
+ghost use Rattle.calls.specs.Lent.{call_in};
 ghost use Rattle.checks.specs.Checks.{all_finite, nothing_to_do, checked};
 
-use calls::{LONGEST_TRACK, Settings, SheetHead};
-use numbers::counts::fewer;
+use calls::sheet::LentCall;
+use calls::{LONGEST_TRACK, Settings};
 use numbers::floats::is_finite;
+use refusal::Refusal;
 use sheets::{matches, well_formed};
 
-// What the checks say of a call: refused by a number, the Rust's empty answer, or as many frame
-// positions to go through.
-#[derive(Clone, Copy)]
-pub enum Checked {
-    Refused(u32),
-    Empty,
-    Go(usize),
-}
+pub mod refusal;
 
 // The five f32 settings are finite.
 fn all_finite(s: Settings) -> bool
@@ -47,7 +42,7 @@ fn nothing_to_do(s: Settings, count: usize) -> bool
 pub fn fewest(a: usize, b: usize, c: usize) -> usize
     ensures { result ≡ min a (min b c) }
 {
-    fewer(a, fewer(b, c))
+    a.min(b.min(c))
 }
 
 // How many frames there are.
@@ -55,69 +50,47 @@ fn frame_positions(s: Settings, count: usize) -> usize
     requires { (0 < s.hop_size) × (0 < s.frame_size) × (s.frame_size ≤ count) }
     ensures { result ≡ positions_of s count }
 {
-    let hop = s.hop_size;
-    (count - s.frame_size) / hop + 1
+    (count - s.frame_size) / s.hop_size + 1
 }
 
-// What the table says of a call with room for so many frames. It is hasty where row 5 applies; few says that other rows
-// are too few.
-pub fn check(
-    settings: Settings,
-    head: SheetHead,
-    samples: &[f32],
-    window: &[f32],
-    coefficients: &[f32],
-    weights: &[f32],
-    lengths: &[u32],
-    qcoefficients: &[f32],
-    qwindows: &[f32],
-    hasty: bool,
-    few: bool,
-    room: usize,
-) -> Checked
-    ensures { result ≡ checked (given settings head samples.now window.now coefficients.now weights.now lengths.now qcoefficients.now qwindows.now) hasty (few || ltb room (positions_of settings (length samples.now))) }
+// What the table says of a call with room for so many frames: why it is refused, nothing where the Rust's answer is
+// empty, or as many frame positions to go through. The call is hasty where row 5 applies; few says that other rows are
+// too few.
+pub fn check(call: LentCall, hasty: bool, few: bool, room: usize) -> Result<Option<usize>, Refusal>
+    ensures { result ≡ checked (call_in call.entry) hasty (few || ltb room (positions_of call.entry.settings (length call.entry.samples.now))) }
 {
+    let settings = call.settings;
+    let count = call.samples.len();
     if settings.rate > 192_000 {
-        return Checked::Refused(1);
+        return Err(Refusal::RateTooHigh);
     }
     if (settings.frame_size > 65_536) | (settings.hop_size > 1_048_576) {
-        return Checked::Refused(2);
+        return Err(Refusal::FrameOrHopTooLarge);
     }
-    let vague = !all_finite(settings);
-    let unknown = settings.engine > 1;
-    let idle = nothing_to_do(settings, samples.len());
-    if vague {
-        return Checked::Refused(3);
+    if !all_finite(settings) {
+        return Err(Refusal::SettingNotFinite);
     }
-    if unknown {
-        return Checked::Refused(13);
+    if settings.engine > 1 {
+        return Err(Refusal::EngineUnknown);
     }
-    if idle {
-        return Checked::Empty;
+    if nothing_to_do(settings, count) {
+        return Ok(None);
     }
-    if samples.len() > LONGEST_TRACK * (settings.rate as usize) {
-        return Checked::Refused(4);
+    if count > LONGEST_TRACK * (settings.rate as usize) {
+        return Err(Refusal::TrackTooLong);
     }
     if hasty {
-        return Checked::Refused(5);
+        return Err(Refusal::HopTooShort);
     }
-    if !matches(settings, head) {
-        return Checked::Refused(6);
+    if !matches(settings, call.sheet.head) {
+        return Err(Refusal::SheetOfAnotherCall);
     }
-    if !well_formed(
-        head,
-        window,
-        coefficients,
-        weights,
-        lengths,
-        qcoefficients,
-        qwindows,
-    ) {
-        return Checked::Refused(7);
+    if !well_formed(call.sheet) {
+        return Err(Refusal::SheetNotWellFormed);
     }
-    let positions = frame_positions(settings, samples.len());
+    let positions = frame_positions(settings, count);
     if few | (room < positions) {
-        return Checked::Refused(8);
+        return Err(Refusal::RoomTooSmall);
     }
-    Checked::Go(positions)
+    Ok(Some(positions))
 }

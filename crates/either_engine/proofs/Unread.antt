@@ -5,13 +5,12 @@ use Prim.Native.Nat.{ℕ, zero, suc, ◌≤◌}
 use borrow.Author.Tests.{le-ltb}
 use lib.Dec.{ltb}
 use lib.ListN.{length}
+use Rattle.std.specs.Prelude.{None, Some, Ok, Err}
 use Rattle.laws.specs.Table.{any_of}
 use Rattle.calls.specs.Call.{Call, seconds_at, positions_of}
 use Rattle.calls.specs.Rows.{Rows, room_in}
 use Rattle.sheets.specs.Sheet.{matches_call}
-use Rattle.checks.specs.Checks.{all_finite, nothing_to_do, checked}
-use Rattle.checks.specs.declared.Checked.{Checked}
-use Rattle.checks.specs.declared.Checked.TheVariants.{Refused, Empty, Go}
+use Rattle.checks.specs.Checks.{all_finite, nothing_to_do, Checked, checked}
 use Rattle.one_frame.specs.Frame.{row_of}
 use Rattle.frames.specs.Run.{energy_at, frame_row, not_finite_at, loud_before, stop_at}
 use Rattle.windows.specs.Span.{span_of}
@@ -58,14 +57,14 @@ module _ (c : Call) (engine : ℕ) where
   found-same positions lent = rw (stop-same positions, loud-same (stop_at c positions)) refl
 
   after_same : (lent : Lent) (told : Checked) → after_checks other lent told ≡ after_checks c lent told
-  after_same lent (Refused n) = refl
-  after_same lent Empty = refl
-  after_same lent (Go positions) = run-same positions lent
+  after_same lent (Err refusal) = refl
+  after_same lent (Ok None) = refl
+  after_same lent (Ok (Some positions)) = run-same positions lent
 
   frames-after-same : (lent : Rows) (told : Checked) → frames_after other lent told ≡ frames_after c lent told
-  frames-after-same lent (Refused n) = refl
-  frames-after-same lent Empty = refl
-  frames-after-same lent (Go positions) = found-same positions lent
+  frames-after-same lent (Err refusal) = refl
+  frames-after-same lent (Ok None) = refl
+  frames-after-same lent (Ok (Some positions)) = found-same positions lent
 
   module _ (known : c.settings.engine ≤ 1) (named : engine ≤ 1) where
     table_same : (lent : Lent) → table_of other lent ≡ table_of c lent

@@ -6,6 +6,7 @@ use mathlib.Core.List.{[], ◌∷◌, ◌++◌}
 use native.Mathlib.Omega.{arith}
 use lib.Dec.{ltb}
 use lib.ListN.{length, length-append}
+use Rattle.std.specs.Prelude.{Ok, Err}
 use Rattle.laws.proofs.Column.{column_fits}
 use Rattle.laws.specs.First.{first}
 use Rattle.laws.proofs.First.{first-within}
@@ -13,10 +14,8 @@ use Rattle.calls.specs.Call.{Call}
 use Rattle.calls.specs.Rows.{Rows}
 use Rattle.one_frame.specs.Frame.{loud}
 use Rattle.frames.specs.Run.{energy_at, frame_row, not_finite_at, loud_before, stop_at}
-use Rattle.frames.specs.inside.Rows.{Run, ran, run_of}
+use Rattle.frames.specs.inside.Rows.{not_finite, Filled, Run, ran, run_of}
 use Rattle.one_frame.specs.declared.frame.Row.{Row}
-use Rattle.frames.specs.declared.run.Filled.{Filled}
-use Rattle.frames.specs.declared.run.Filled.TheVariants.{All, NotFinite}
 
 -- so many frames, at most one to a position, have their place in the rows
 pub record Left (positions n : ℕ) (now : Rows) : Type 0 where
@@ -36,14 +35,14 @@ loud-few c (suc k) = either (loud (energy_at c k)) (loud-few c k)
 
 -- how many frames an answer says
 abbrev count_of : Filled → ℕ
-count_of (All n) = n
-count_of (NotFinite k n) = n
+count_of (Ok n) = n
+count_of (Err stop) = stop.count
 
-either-count : (b : Bool) (k n : ℕ) → count_of (cond b (NotFinite k n) (All n)) ≡ n
+either-count : (b : Bool) (k n : ℕ) → count_of (cond b (Err (not_finite k n)) (Ok n)) ≡ n
 either-count true k n = cc
 either-count false k n = cc
 
-pub run-left : (c : Call) (positions : ℕ) (before : Rows) {n : ℕ} {now : Rows} → ran (All n) now ≡ run_of c positions before → Left positions n now
+pub run-left : (c : Call) (positions : ℕ) (before : Rows) {n : ℕ} {now : Rows} → ran (Ok n) now ≡ run_of c positions before → Left positions n now
 unfolding run_of stop_at
 run-left c positions before {n} {now} e =
     let k = first (not_finite_at c) positions 0 in

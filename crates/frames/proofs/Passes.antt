@@ -6,6 +6,7 @@ use mathlib.Core.List.{[], ◌∷◌}
 use native.Mathlib.Omega.{arith}
 use lib.Dec.{eqb}
 use borrow.Author.Tests.{eqb-true}
+use Rattle.std.specs.Prelude.{Some, Ok}
 use Rattle.laws.proofs.Table.{each_of}
 use Rattle.calls.specs.Call.{Call}
 use Rattle.calls.specs.Rows.{Rows, room_in}
@@ -14,7 +15,6 @@ use Rattle.calls.specs.declared.SheetHead.{SheetHead}
 use Rattle.sheets.specs.Sheet.{matches_call}
 use Rattle.sheets.proofs.Formed.{well-formed-suffices}
 use Rattle.checks.specs.Checks.{checked}
-use Rattle.checks.specs.declared.Checked.TheVariants.{Go}
 use Rattle.checks.proofs.Passed.{passed}
 use Rattle.frames.specs.inside.Rows.{Ready}
 
@@ -32,7 +32,7 @@ same_size s h m =
     m 3)
 
 -- where the lent rows have the room
-pub ready : (c : Call) (hasty crowded : Bool) (before : Rows) (positions : ℕ) → c.sheet.head.maximum_midi_note < 256 → positions ≤ room_in before → checked c hasty crowded ≡ Go positions → Ready c before positions
+pub ready : (c : Call) (hasty crowded : Bool) (before : Rows) (positions : ℕ) → c.sheet.head.maximum_midi_note < 256 → positions ≤ room_in before → checked c hasty crowded ≡ Ok (Some positions) → Ready c before positions
 ready c hasty crowded before positions note there e =
     let p = passed c hasty crowded positions e in
     record {

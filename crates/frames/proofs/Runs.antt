@@ -10,6 +10,7 @@ use borrow.Author.Tests.{lt-ltb, le-ltb}
 use lib.Dec.{ltb}
 use lib.ListN.{length, length-append}
 use lib.Ieee.{Float}
+use Rattle.std.specs.Prelude.{Ok, Err}
 use Rattle.laws.specs.First.{first}
 use Rattle.laws.proofs.First.{first_start, first-again, first_out, first-end}
 use Rattle.laws.proofs.Column.{Column, column-start, column-more}
@@ -27,10 +28,8 @@ use Rattle.blocks.specs.declared.stock.Held.{Held}
 use Rattle.blocks.specs.declared.stock.Handed.{Handed}
 use Rattle.one_frame.specs.Frame.{loud, middle_of, row_from, row_of, whole}
 use Rattle.frames.specs.Run.{energy_at, frame_row, not_finite_at, loud_before, holding_frames, stop_at}
-use Rattle.frames.specs.inside.Rows.{put, ran, run_to, run_of, Ready}
+use Rattle.frames.specs.inside.Rows.{put, not_finite, Filled, ran, run_to, run_of, Ready}
 use Rattle.one_frame.specs.declared.frame.Row.{Row}
-use Rattle.frames.specs.declared.run.Filled.{Filled}
-use Rattle.frames.specs.declared.run.Filled.TheVariants.{All, NotFinite}
 
 -- a frame position's samples are there
 pub frame-fits : {c : Call} {before : Rows} {positions : ℕ} (k : ℕ) → Ready c before positions → k < positions → k * c.settings.hop_size + c.settings.frame_size ≤ length c.samples
@@ -134,19 +133,19 @@ module _ {c : Call} {positions : ℕ} {before now : Rows} {k n : ℕ} (reached :
   reached-loud e a h l w = subst (λ (x : Rows). Reached c positions before x (k + 1) (n + 1)) (sym (a ∙ ap (λ (r : Row). put r n now) e)) (one_more h l w)
 
   -- what is left where the run ends at k
-  left_at : (passed : Bool) → ltb k positions ≡ passed → k ≡ first (not_finite_at c) positions 0 → ran (cond passed (NotFinite k n) (All n)) now ≡ run_of c positions before
+  left_at : (passed : Bool) → ltb k positions ≡ passed → k ≡ first (not_finite_at c) positions 0 → ran (cond passed (Err (not_finite k n)) (Ok n)) now ≡ run_of c positions before
   unfolding run_of stop_at
   left_at passed t e =
       let found = loud_before c k in
-      let answer : cond passed (NotFinite k n) (All n) ≡ cond (ltb k positions) (NotFinite k (length found)) (All (length found)) = cc in
+      let answer : cond passed (Err (not_finite k n)) (Ok n) ≡ cond (ltb k positions) (Err (not_finite k (length found))) (Ok (length found)) = cc in
       let left : now ≡ holding_frames found before = same_rows reached.centres.here reached.values.here reached.energies.here in
       ap (λ (a : Filled). ran a now) answer ∙ ap (ran _) left ∙ ap (λ (j : ℕ). run_to c positions j before) e
 
-  pub reached-broken : k < positions → loud (energy_at c k) ≡ true → whole (frame_row c k) ≡ false → ran (NotFinite k n) now ≡ run_of c positions before
+  pub reached-broken : k < positions → loud (energy_at c k) ≡ true → whole (frame_row c k) ≡ false → ran (Err (not_finite k n)) now ≡ run_of c positions before
   unfolding not_finite_at
   reached-broken h l w = left_at true (lt-ltb _ _ h) (first_out (not_finite_at c) positions k reached.ahead h (rw (l, w)))
 
-  pub reached-end : positions ≤ k → ran (All n) now ≡ run_of c positions before
+  pub reached-end : positions ≤ k → ran (Ok n) now ≡ run_of c positions before
   reached-end h = left_at false (le-ltb _ _ h) (first-end (not_finite_at c) positions k reached.ahead h)
 
 -- ---- the constant-Q chromas computed ahead

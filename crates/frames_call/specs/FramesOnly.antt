@@ -1,10 +1,9 @@
 -- What `ulyptesh_frames` promises, as one definition of what it is given. Definitions only.
-use Rattle.std.specs.Prelude.{false, cond, ℕ, ltb, length}
+use Rattle.std.specs.Prelude.{false, cond, ℕ, ltb, length, None, Some, Ok, Err}
 use Rattle.calls.specs.Call.{Call, positions_of}
 use Rattle.calls.specs.Rows.{Rows, room_in}
-use Rattle.checks.specs.Checks.{checked}
-use Rattle.checks.specs.declared.Checked.{Checked}
-use Rattle.checks.specs.declared.Checked.TheVariants.{Refused, Empty, Go}
+use Rattle.checks.specs.Checks.{Checked, checked}
+use Rattle.checks.specs.Refusals.{number_of}
 use Rattle.frames.specs.Run.{loud_before, holding_frames, stop_at}
 use Rattle.frames_call.specs.declared.FramesResult.{FramesResult}
 
@@ -30,9 +29,9 @@ frames_found c positions lent =
 
 -- a call that the table refuses, or finds empty, changes nothing; any other goes through its frame positions
 abbrev pub frames_after : Call → Rows → Checked → FramesOutcome
-frames_after c lent (Refused n) = frames_outcome (frames_result n 0 0) lent
-frames_after c lent Empty = frames_outcome (frames_result 0 0 0) lent
-frames_after c lent (Go positions) = frames_found c positions lent
+frames_after c lent (Err refusal) = frames_outcome (frames_result (number_of refusal) 0 0) lent
+frames_after c lent (Ok None) = frames_outcome (frames_result 0 0 0) lent
+frames_after c lent (Ok (Some positions)) = frames_found c positions lent
 
 -- what the table says: without row 5, and row 8 asks for a frame row to each position
 abbrev pub frames_table : Call → Rows → Checked

@@ -1,2 +1,2 @@
 -- What only the code's own steps need: no promise names it.
-pub mod Finished
+pub mod Answered

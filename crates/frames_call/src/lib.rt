@@ -2,14 +2,16 @@
 #![tactic(auto)]
 
 ghost use Rattle.std.specs.Prelude.{◌≡◌};
-ghost use Rattle.calls.specs.Call.{given};
-ghost use Rattle.calls.specs.Rows.{lent_rows};
-ghost use Rattle.frames_call.specs.FramesOnly.{frames_result, frames_outcome, frames_only};
-ghost use Rattle.frames_call.specs.inside.Finished.{filled_result};
+ghost use Rattle.calls.specs.Lent.{call_in, rows_in, SameFrameRows};
+ghost use Rattle.frames_call.specs.FramesOnly.{frames_outcome, frames_only};
+ghost use Rattle.frames_call.specs.inside.Answered.{answered};
+ghost use Rattle.frames_call.specs.declared.Stop.TheVariants.{Refused, Broken};
 
-use calls::{Settings, SheetHead};
-use checks::{Checked, check, fewest};
-use frames::run::{Filled, fill_rows};
+use calls::rows::FrameRows;
+use calls::sheet::LentCall;
+use checks::check;
+use checks::refusal::Refusal;
+use frames::run::{NotFinite, fill_rows};
 
 // The refusal's number, or 0; the frame position that is not finite, or 0; how many rows were written.
 #[repr(C)]
@@ -20,84 +22,61 @@ pub struct FramesResult {
     pub count: u64,
 }
 
-// A call that ends before any row is written.
-fn no_rows(refusal: u32) -> FramesResult
-    ensures { result ≡ frames_result refusal 0 0 }
-{
-    FramesResult {
-        refusal,
-        position: 0,
-        count: 0,
+// Why a call ends before its last frame position.
+#[derive(Clone, Copy, Debug, PartialEq, Eq)]
+enum Stop {
+    Refused(Refusal),
+    Broken(NotFinite),
+}
+
+impl From<Refusal> for Stop {
+    ghost from_gives = { λ refusal stop. stop ≡ Refused refusal };
+
+    fn from(refusal: Refusal) -> Stop {
+        Stop::Refused(refusal)
     }
 }
 
-// A run's answer as numbers.
-fn finished(filled: Filled) -> FramesResult
-    ensures { result ≡ filled_result filled }
+impl From<NotFinite> for Stop {
+    ghost from_gives = { λ broken stop. stop ≡ Broken broken };
+
+    fn from(broken: NotFinite) -> Stop {
+        Stop::Broken(broken)
+    }
+}
+
+// Writes the loud frames into the lent rows, and says how many.
+fn write_frames(call: LentCall, rows: &mut FrameRows) -> Result<usize, Stop>
+    ensures same { SameFrameRows rows.old rows.new }
+    ensures outcome { frames_outcome (answered result) (rows_in rows.new) ≡ frames_only (call_in call.entry) (rows_in rows.old) }
 {
-    match filled {
-        Filled::All(count) => FramesResult {
-            refusal: 0,
-            position: 0,
-            count: count as u64,
-        },
-        Filled::NotFinite(position, count) => FramesResult {
-            refusal: 9,
-            position: position as u64,
-            count: count as u64,
-        },
+    match check(call, false, false, rows.room())? {
+        Some(positions) => Ok(fill_rows(call, positions, rows)?),
+        None => Ok(0),
     }
 }
 
 // Writes the loud frames of a track from the front of the lent rows: centre in seconds, chroma, energy.
 // Refusals 1 to 4, 6 to 8 and 13 by the table; 9 a loud frame that is not finite, with its position.
-pub fn frames_only(
-    settings: Settings,
-    head: SheetHead,
-    samples: &[f32],
-    window: &[f32],
-    coefficients: &[f32],
-    weights: &[f32],
-    lengths: &[u32],
-    qcoefficients: &[f32],
-    qwindows: &[f32],
-    centres: &mut [f64],
-    values: &mut [[f32; 12]],
-    energies: &mut [f32],
-) -> FramesResult
-    ensures { frames_outcome result (lent_rows centres.new values.new energies.new) ≡ frames_only (given settings head samples.now window.now coefficients.now weights.now lengths.now qcoefficients.now qwindows.now) (lent_rows centres.old values.old energies.old) }
+pub fn frames_only(call: LentCall, rows: &mut FrameRows) -> FramesResult
+    ensures same { SameFrameRows rows.old rows.new }
+    ensures outcome { frames_outcome result (rows_in rows.new) ≡ frames_only (call_in call.entry) (rows_in rows.old) }
 {
-    let room = fewest(centres.len(), values.len(), energies.len());
-    match check(
-        settings,
-        head,
-        samples,
-        window,
-        coefficients,
-        weights,
-        lengths,
-        qcoefficients,
-        qwindows,
-        false,
-        false,
-        room,
-    ) {
-        Checked::Refused(number) => no_rows(number),
-        Checked::Empty => no_rows(0),
-        Checked::Go(positions) => finished(fill_rows(
-            settings,
-            head,
-            samples,
-            window,
-            coefficients,
-            weights,
-            lengths,
-            qcoefficients,
-            qwindows,
-            positions,
-            centres,
-            values,
-            energies,
-        )),
+    match write_frames(call, rows) {
+        Ok(count) => FramesResult {
+            refusal: 0,
+            position: 0,
+            count: count as u64,
+        },
+        Err(Stop::Refused(refusal)) => FramesResult {
+            refusal: u32::from(refusal),
+            position: 0,
+            count: 0,
+        },
+        Err(Stop::Broken(at)) => FramesResult {
+            refusal: 9,
+            position: at.position as u64,
+            count: at.count as u64,
+        },
     }
 }

@@ -3,6 +3,7 @@ pub mod Turns
 pub mod First
 pub mod Front
 pub mod FromFn
+pub mod Folds
 pub mod Every
 pub mod Same
 pub mod Sums

@@ -7,15 +7,14 @@ use native.Mathlib.Omega.{arith}
 use lib.Dec.{ltb}
 use lib.ListN.{length, get_or}
 use lib.Ieee.{nan}
+use Rattle.std.specs.Prelude.{Ok, Err}
 use Rattle.laws.proofs.Front.{list_same, list-own}
 use Rattle.laws.proofs.Column.{column-at}
 use Rattle.calls.specs.Call.{Call}
 use Rattle.calls.specs.Rows.{Rows}
 use Rattle.one_frame.specs.declared.frame.Row.{Row}
 use Rattle.frames.specs.Run.{loud_before, holding_frames, stop_at}
-use Rattle.frames.specs.inside.Rows.{Run, ran, run_of}
-use Rattle.frames.specs.declared.run.Filled.{Filled}
-use Rattle.frames.specs.declared.run.Filled.TheVariants.{All, NotFinite}
+use Rattle.frames.specs.inside.Rows.{not_finite, Filled, Run, ran, run_of}
 use Rattle.frames.proofs.Left.{run-left}
 use Rattle.rooms.specs.Lent.{Lent}
 use Rattle.rooms.specs.inside.With.{with_frames}
@@ -41,19 +40,19 @@ frames-read-back found before = list_same (row_in (holding_frames found before))
 
 -- whether an answer is of a run that was stopped, where, and how many frames it says
 abbrev stopped : Filled → Bool
-stopped (All n) = false
-stopped (NotFinite k n) = true
+stopped (Ok n) = false
+stopped (Err at) = true
 
 abbrev place : ℕ → Filled → ℕ
-place k (All n) = k
-place k (NotFinite j n) = j
+place k (Ok n) = k
+place k (Err at) = at.position
 
 abbrev count_of : Filled → ℕ
-count_of (All n) = n
-count_of (NotFinite k n) = n
+count_of (Ok n) = n
+count_of (Err at) = at.count
 
 module _ (c : Call) (positions : ℕ) (l : Lent) {filled : Filled} {now : Rows} (run : ran filled now ≡ run_of c positions l.frames) where
-  pub stocked-so : {n : ℕ} → filled ≡ All n → Supplied c positions l → Stocked c.settings (length c.samples) n (with_frames now l)
+  pub stocked-so : {n : ℕ} → filled ≡ Ok n → Supplied c positions l → Stocked c.settings (length c.samples) n (with_frames now l)
   stocked-so {n} all supplied =
       let left = run-left c positions l.frames (sym (ap (λ (f : Filled). ran f now) all) ∙ run) in
       let ready = supplied.prepared.ready in
@@ -93,7 +92,7 @@ module _ (c : Call) (positions : ℕ) (l : Lent) {filled : Filled} {now : Rows} 
       }
     where
       answer : Bool → Filled
-      answer b = cond b (NotFinite stop (length found)) (All (length found))
+      answer b = cond b (Err (not_finite stop (length found))) (Ok (length found))
 
       by-stop : (b : Bool) → stopped (answer b) ≡ b
       by-stop true = refl
@@ -110,7 +109,7 @@ module _ (c : Call) (positions : ℕ) (l : Lent) {filled : Filled} {now : Rows} 
   abbrev held : Lent
   held = with_frames (holding_frames found l.frames) l
 
-  pub not-finite-so : {position n : ℕ} {r : AnalyseResult} → filled ≡ NotFinite position n → r ≡ keyless 9 position n → analyse_outcome r (with_frames now l) ≡ positions_analysed c positions l
+  pub not-finite-so : {position n : ℕ} {r : AnalyseResult} → filled ≡ Err (not_finite position n) → r ≡ keyless 9 position n → analyse_outcome r (with_frames now l) ≡ positions_analysed c positions l
   unfolding positions_analysed
   not-finite-so {position} {n} {r} broken e =
       let ended : ltb stop positions ≡ true = sym says.ended ∙ ap stopped broken in
@@ -120,7 +119,7 @@ module _ (c : Call) (positions : ℕ) (l : Lent) {filled : Filled} {now : Rows} 
       ∙ ap (λ (rows : Rows). analyse_outcome (keyless 9 stop (length found)) (with_frames rows l)) says.held
       ∙ rw ended
 
-  pub all_so : {n : ℕ} {o : AnalyseOutcome} → filled ≡ All n → o ≡ loud_analysed c.settings (length c.samples) (frames_in now n) (with_frames now l) → o ≡ positions_analysed c positions l
+  pub all_so : {n : ℕ} {o : AnalyseOutcome} → filled ≡ Ok n → o ≡ loud_analysed c.settings (length c.samples) (frames_in now n) (with_frames now l) → o ≡ positions_analysed c positions l
   unfolding positions_analysed
   all_so {n} {o} all e =
       let ended : ltb stop positions ≡ false = sym says.ended ∙ ap stopped all in

@@ -5,6 +5,7 @@ ghost use Rattle.sheets.specs.Sheet.{matches_call, well_formed};
 ghost use Rattle.probe.specs.Filters.{reaches_to, rows_fit, rows_held, magnitudes_outcome, probed_magnitudes, probed_goertzel, probed_constant_q};
 
 use crate::chroma_leaves::Twelve;
+use calls::sheet::LentSheet;
 use calls::{Settings, SheetHead};
 use constant_q::chroma::constant_q_chroma;
 use goertzel::goertzel_chroma;
@@ -18,26 +19,26 @@ pub extern "C" fn probe_sheet_matches(settings: Settings, head: SheetHead) -> bo
 }
 
 #[unsafe(no_mangle)]
-pub extern "C" fn probe_well_formed(
+pub extern "C" fn probe_well_formed<'a>(
     head: SheetHead,
-    window: &[f32],
-    coefficients: &[f32],
-    weights: &[f32],
-    lengths: &[u32],
-    qcoefficients: &[f32],
-    qwindows: &[f32],
+    window: &'a [f32],
+    coefficients: &'a [f32],
+    weights: &'a [f32],
+    lengths: &'a [u32],
+    qcoefficients: &'a [f32],
+    qwindows: &'a [f32],
 ) -> bool
     ensures { result ≡ well_formed (lent_sheet head window.now coefficients.now weights.now lengths.now qcoefficients.now qwindows.now) }
 {
-    sheets::well_formed(
+    sheets::well_formed(LentSheet {
         head,
         window,
-        coefficients,
-        weights,
-        lengths,
-        qcoefficients,
-        qwindows,
-    )
+        goertzel_coefficients: coefficients,
+        goertzel_weights: weights,
+        constant_q_lengths: lengths,
+        constant_q_coefficients: qcoefficients,
+        constant_q_windows: qwindows,
+    })
 }
 
 // Whether so many values from a start on are there.

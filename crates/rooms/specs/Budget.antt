@@ -1,8 +1,7 @@
 -- The window loop on a whole call: it is the Rust's, pass for pass, and the budget is never the reason to stop. The statement.
-use Rattle.std.specs.Prelude.{◌≡◌, Bool, true, false, ℕ, length}
+use Rattle.std.specs.Prelude.{◌≡◌, Bool, true, false, ℕ, length, Some, Ok}
 use Rattle.calls.specs.Call.{Call, Typed}
 use Rattle.checks.specs.Checks.{checked}
-use Rattle.checks.specs.declared.Checked.TheVariants.{Go}
 use Rattle.windows.specs.Span.{span_of, brief, rows_asked}
 use Rattle.windows.specs.Budget.{Passes}
 use Rattle.windows.specs.declared.span.Span.{Span}
@@ -16,5 +15,5 @@ pub record AskedRightly (s : Span) : Type 0 where
 -- so it is in every call that passes the checks, whatever room it has
 abbrev pub LoopEndsItself : Type 0
 LoopEndsItself =
-    (c : Call) (crowded : Bool) (positions : ℕ) → Typed c.settings → checked c (hasty c.settings) crowded ≡ Go positions →
+    (c : Call) (crowded : Bool) (positions : ℕ) → Typed c.settings → checked c (hasty c.settings) crowded ≡ Ok (Some positions) →
     AskedRightly (span_of c.settings (length c.samples))

@@ -1,2 +1,3 @@
 -- What a well-formed sheet gives.
 pub mod Formed
+mod Joined

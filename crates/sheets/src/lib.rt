@@ -4,9 +4,10 @@
 ghost use Rattle.std.specs.Prelude.{◌≡◌, ◌≤◌, length};
 ghost use Rattle.std.specs.Float.{nan};
 ghost use Rattle.laws.specs.Every.{every_entry};
-ghost use Rattle.calls.specs.Call.{lent_sheet};
+ghost use Rattle.calls.specs.Lent.{sheet_in};
 ghost use Rattle.sheets.specs.Sheet.{matches_call, notes_in, from_to, is_weight, is_length, joined_length, lists_fit, well_formed};
 
+use calls::sheet::LentSheet;
 use calls::{Settings, SheetHead};
 use numbers::floats::is_finite;
 
@@ -24,51 +25,35 @@ pub fn matches(settings: Settings, head: SheetHead) -> bool
 fn notes(head: SheetHead) -> usize
     ensures { (result ≡ notes_in head) × (result ≤ 256) }
 {
-    let lowest = head.minimum_midi_note as usize;
-    let end = head.maximum_midi_note as usize + 1;
-    if end < lowest { 0 } else { end - lowest }
+    let end = usize::from(head.maximum_midi_note) + 1;
+    end.saturating_sub(usize::from(head.minimum_midi_note))
 }
 
 // Every value lies from low to high. A NaN lies nowhere.
 fn all_from_to(values: &[f32], low: f32, high: f32) -> bool
     ensures { result ≡ every_entry (from_to low high) nan values.now }
 {
-    let mut good = true;
-    let mut i = 0;
-    while i < values.len() {
-        let x = values[i];
-        good = good & ((low <= x) & (x <= high));
-        i += 1;
-    }
-    good
+    values
+        .iter()
+        .fold(true, |good, x| good & ((low <= *x) & (*x <= high)))
 }
 
 // Every weight is finite and above 0.
 fn all_weights(weights: &[f32]) -> bool
     ensures { result ≡ every_entry is_weight nan weights.now }
 {
-    let mut good = true;
-    let mut i = 0;
-    while i < weights.len() {
-        let x = weights[i];
-        good = good & (is_finite(x) & (0.0 < x));
-        i += 1;
-    }
-    good
+    weights
+        .iter()
+        .fold(true, |good, x| good & (is_finite(*x) & (0.0 < *x)))
 }
 
 // Every length is from 4 to the rate.
 fn all_lengths(lengths: &[u32], rate: u32) -> bool
     ensures { result ≡ every_entry (is_length rate) 0 lengths.now }
 {
-    let mut good = true;
-    let mut i = 0;
-    while i < lengths.len() {
-        let n = lengths[i];
-        good = good & ((4 <= n) & (n <= rate));
-        i += 1;
-    }
-    good
+    lengths
+        .iter()
+        .fold(true, |good, n| good & ((4 <= *n) & (*n <= rate)))
 }
 
 // How long the windows of all rows are together.
@@ -76,63 +61,33 @@ pub fn joined_length(lengths: &[u32]) -> usize
     requires { length lengths.now ≤ 256 }
     ensures { result ≡ joined_length lengths.now (length lengths.now) }
 {
-    let mut sum = 0;
-    let mut i = 0;
-    while i < lengths.len() {
-        sum += lengths[i] as usize;
-        i += 1;
-    }
-    sum
+    lengths.iter().map(|length| *length as usize).sum()
 }
 
 // The lists are as long as the head and each other allow.
-fn lists_fit(
-    head: SheetHead,
-    window: &[f32],
-    coefficients: &[f32],
-    weights: &[f32],
-    lengths: &[u32],
-    qcoefficients: &[f32],
-    qwindows: &[f32],
-) -> bool
-    ensures { result ≡ lists_fit (lent_sheet head window.now coefficients.now weights.now lengths.now qcoefficients.now qwindows.now) }
+fn lists_fit(sheet: LentSheet) -> bool
+    ensures { result ≡ lists_fit (sheet_in sheet.entry) }
 {
-    let most = notes(head);
-    (window.len() == head.frame_size)
-        & (coefficients.len() == weights.len())
-        & (lengths.len() == qcoefficients.len())
-        & (coefficients.len() <= most)
-        & (lengths.len() <= most)
+    let most = notes(sheet.head);
+    (sheet.window.len() == sheet.head.frame_size)
+        & (sheet.goertzel_coefficients.len() == sheet.goertzel_weights.len())
+        & (sheet.constant_q_lengths.len() == sheet.constant_q_coefficients.len())
+        & (sheet.goertzel_coefficients.len() <= most)
+        & (sheet.constant_q_lengths.len() <= most)
 }
 
 // The sheet is well formed.
-pub fn well_formed(
-    head: SheetHead,
-    window: &[f32],
-    coefficients: &[f32],
-    weights: &[f32],
-    lengths: &[u32],
-    qcoefficients: &[f32],
-    qwindows: &[f32],
-) -> bool
-    ensures { result ≡ well_formed (lent_sheet head window.now coefficients.now weights.now lengths.now qcoefficients.now qwindows.now) }
+pub fn well_formed(sheet: LentSheet) -> bool
+    ensures { result ≡ well_formed (sheet_in sheet.entry) }
 {
-    if !lists_fit(
-        head,
-        window,
-        coefficients,
-        weights,
-        lengths,
-        qcoefficients,
-        qwindows,
-    ) {
+    if !lists_fit(sheet) {
         return false;
     }
-    all_lengths(lengths, head.rate)
-        & (qwindows.len() == joined_length(lengths))
-        & all_from_to(coefficients, -2.0, 2.0)
-        & all_from_to(qcoefficients, -2.0, 2.0)
-        & all_weights(weights)
-        & all_from_to(window, 0.0, 1.0)
-        & all_from_to(qwindows, 0.0, 1.0)
+    all_lengths(sheet.constant_q_lengths, sheet.head.rate)
+        & (sheet.constant_q_windows.len() == joined_length(sheet.constant_q_lengths))
+        & all_from_to(sheet.goertzel_coefficients, -2.0, 2.0)
+        & all_from_to(sheet.constant_q_coefficients, -2.0, 2.0)
+        & all_weights(sheet.goertzel_weights)
+        & all_from_to(sheet.window, 0.0, 1.0)
+        & all_from_to(sheet.constant_q_windows, 0.0, 1.0)
 }

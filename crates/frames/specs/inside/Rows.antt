@@ -1,17 +1,24 @@
 -- The run over frame positions as its code has it: what it answers, what it leaves in lent rows, what it needs. No promise names it. Definitions only.
-use Rattle.std.specs.Prelude.{ℕ, ◌<◌, ◌≤◌, ◌≡◌, cond, length, set, ltb}
+use Rattle.std.specs.Prelude.{ℕ, ◌<◌, ◌≤◌, ◌≡◌, cond, length, set, ltb, Result, Ok, Err}
 use Rattle.calls.specs.Call.{Call, positions_of}
 use Rattle.calls.specs.Rows.{Rows}
 use Rattle.calls.specs.inside.Parts.{rows}
 use Rattle.sheets.specs.Sheet.{Formed}
 use Rattle.one_frame.specs.declared.frame.Row.{Row}
 use Rattle.frames.specs.Run.{loud_before, holding_frames, stop_at}
-use Rattle.frames.specs.declared.run.Filled.{Filled}
-use Rattle.frames.specs.declared.run.Filled.TheVariants.{All, NotFinite}
+use Rattle.frames.specs.declared.run.NotFinite.{NotFinite}
 
 -- the lent rows with one row put into place n
 abbrev pub put : Row → ℕ → Rows → Rows
 put r n now = rows (set now.centres n r.centre) (set now.values n r.values) (set now.energies n r.energy)
+
+-- the position that is not finite, and the rows before it
+abbrev pub not_finite : ℕ → ℕ → NotFinite
+not_finite position count = record { position = position; count = count }
+
+-- a run's answer: how many rows it wrote, or where it was stopped
+abbrev pub Filled : Type 0
+Filled = Result ℕ NotFinite
 
 -- what a run answers, and what it leaves
 pub record Run : Type 0 where
@@ -26,7 +33,7 @@ ran answer rows = record { answer = answer; rows = rows }
 abbrev pub run_to : Call → ℕ → ℕ → Rows → Run
 run_to c positions k before =
     let found = loud_before c k in
-    ran (cond (ltb k positions) (NotFinite k (length found)) (All (length found))) (holding_frames found before)
+    ran (cond (ltb k positions) (Err (not_finite k (length found))) (Ok (length found))) (holding_frames found before)
 
 -- over so many positions
 unfoldable pub run_of : Call → ℕ → Rows → Run

@@ -1,19 +1,11 @@
--- A weight a turn, joined to those before.
-use native.Mathlib.Omega.{arith}
-use mathlib.Core.Path.{refl}
+-- The fold joins the test of each weight.
 use lib.Ieee.{of_bits}
-use Rattle.laws.specs.Every.{every, every_entry}
-use Rattle.laws.proofs.Every.{every_more, every-all}
+use Rattle.std.proofs.Common.{rules}
+use Rattle.std.specs.Float.{nan}
+use Rattle.laws.proofs.Folds.{every-folded}
+use Rattle.sheets.specs.Sheet.{is_weight}
 use Rattle.sheets.proofs.all_weights.Goals as goal
 
-pub loop-i-init : goal.loop-i-init
-unfolding every
-loop-i-init c = (omega arith, refl)
-
-pub loop-i-preserved : goal.loop-i-preserved
-unfolding of_bits
-loop-i-preserved c = let turn = c.loop-i in (omega arith, rw c.is_finite.ensures (every_more _ turn.i turn.invariant.1))
-
 pub returns : goal.returns
-unfolding every_entry
-returns c = let last = c.loop-i in every-all _ last.i _ last.invariant.1 (omega arith)
+unfolding of_bits
+returns c = every-folded _ _ is_weight nan c.args.weights.now _ (λ a x b q k. search rules) c.iter.ensures.rest c.fold.ensures.ran

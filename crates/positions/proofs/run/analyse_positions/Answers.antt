@@ -5,19 +5,19 @@ use Rattle.positions.proofs.Positions.{stocked-so, not-finite-so, all_so}
 use Rattle.positions.proofs.run.analyse_positions.Goals as goal
 
 pub analyse_frames-requires : goal.analyse_frames-requires
-analyse_frames-requires c = stocked-so ((let args = c.args in given args.settings args.head args.samples.now args.window.now args.coefficients.now args.weights.now args.lengths.now args.qcoefficients.now args.qwindows.now)) c.args.positions ((let args = c.args in lent_all args.centres.now args.values.now args.energies.now args.work.now args.middles.now args.numbers.now args.certainties.now args.shapeless.now args.starts.now args.ends.now args.keys.now args.confidences.now args.counts.now)) c.fill_rows.ensures c.in-All.is c.requires
+analyse_frames-requires c = stocked-so ((let args = c.args in given args.settings args.head args.samples.now args.window.now args.coefficients.now args.weights.now args.lengths.now args.qcoefficients.now args.qwindows.now)) c.args.positions ((let args = c.args in lent_all args.centres.now args.values.now args.energies.now args.work.now args.middles.now args.numbers.now args.certainties.now args.shapeless.now args.starts.now args.ends.now args.keys.now args.confidences.now args.counts.now)) c.fill_slices.ensures c.in-Ok.is c.requires
 
-pub returns-in-NotFinite : goal.returns-in-NotFinite
-returns-in-NotFinite c = not-finite-so ((let args = c.args in given args.settings args.head args.samples.now args.window.now args.coefficients.now args.weights.now args.lengths.now args.qcoefficients.now args.qwindows.now)) c.args.positions ((let args = c.args in lent_all args.centres.now args.values.now args.energies.now args.work.now args.middles.now args.numbers.now args.certainties.now args.shapeless.now args.starts.now args.ends.now args.keys.now args.confidences.now args.counts.now)) c.fill_rows.ensures c.in-NotFinite.is c.keyless.ensures
+pub returns-in-Err : goal.returns-in-Err
+returns-in-Err c = not-finite-so ((let args = c.args in given args.settings args.head args.samples.now args.window.now args.coefficients.now args.weights.now args.lengths.now args.qcoefficients.now args.qwindows.now)) c.args.positions ((let args = c.args in lent_all args.centres.now args.values.now args.energies.now args.work.now args.middles.now args.numbers.now args.certainties.now args.shapeless.now args.starts.now args.ends.now args.keys.now args.confidences.now args.counts.now)) c.fill_slices.ensures c.in-Err.is c.keyless.ensures
 
-pub shape_of-centres-in-All : goal.shape_of-centres-in-All
-shape_of-centres-in-All c = c.centres-1.given
+pub shape_of-centres-in-Ok : goal.shape_of-centres-in-Ok
+shape_of-centres-in-Ok c = c.centres-1.given
 
-pub shape_of-values-in-All : goal.shape_of-values-in-All
-shape_of-values-in-All c = c.values-1.given
+pub shape_of-values-in-Ok : goal.shape_of-values-in-Ok
+shape_of-values-in-Ok c = c.values-1.given
 
-pub shape_of-energies-in-All : goal.shape_of-energies-in-All
-shape_of-energies-in-All c = c.energies-1.given
+pub shape_of-energies-in-Ok : goal.shape_of-energies-in-Ok
+shape_of-energies-in-Ok c = c.energies-1.given
 
 pub shape_of-work : goal.shape_of-work
 shape_of-work c = c.work-1.given
@@ -49,5 +49,5 @@ shape_of-confidences c = c.confidences-1.given
 pub shape_of-counts : goal.shape_of-counts
 shape_of-counts c = c.counts-1.given
 
-pub returns-in-All : goal.returns-in-All
-returns-in-All c = all_so ((let args = c.args in given args.settings args.head args.samples.now args.window.now args.coefficients.now args.weights.now args.lengths.now args.qcoefficients.now args.qwindows.now)) c.args.positions ((let args = c.args in lent_all args.centres.now args.values.now args.energies.now args.work.now args.middles.now args.numbers.now args.certainties.now args.shapeless.now args.starts.now args.ends.now args.keys.now args.confidences.now args.counts.now)) c.fill_rows.ensures c.in-All.is c.analyse_frames.ensures
+pub returns-in-Ok : goal.returns-in-Ok
+returns-in-Ok c = all_so ((let args = c.args in given args.settings args.head args.samples.now args.window.now args.coefficients.now args.weights.now args.lengths.now args.qcoefficients.now args.qwindows.now)) c.args.positions ((let args = c.args in lent_all args.centres.now args.values.now args.energies.now args.work.now args.middles.now args.numbers.now args.certainties.now args.shapeless.now args.starts.now args.ends.now args.keys.now args.confidences.now args.counts.now)) c.fill_slices.ensures c.in-Ok.is c.analyse_frames.ensures
