@@ -55,17 +55,13 @@ fn first_gap(starts: &[f64], ends: &[f64]) -> usize
 {
     let count = ends.len();
     let mut previous = 0.0;
-    let mut i = 0;
-    loop {
-        if i >= count {
-            break count;
-        }
+    for i in 0..count {
         if !(starts[i] == previous) {
-            break i;
+            return i;
         }
         previous = ends[i];
-        i += 1;
     }
+    count
 }
 
 // An analysis that is lent: what it says of the whole track, and its segments in three slices.

@@ -26,11 +26,9 @@ fn put_segments(
     ensures { BitsPut room.old room.new first result (segments_bits l (list (segment_on from (bits_of_bytes bytes.now)) count)) }
 {
     let mut pen = first;
-    let mut i = 0;
-    while i < count {
+    for i in 0..count {
         let s = segment_on(bytes, from, i);
         pen = put_segment(room, pen, l, s);
-        i += 1;
     }
     pen
 }

@@ -43,18 +43,14 @@ pub fn first_broken(bytes: &[u8], l: Layout, rules: Layout, count: usize) -> usi
     ensures { result ≡ first_broken rules (list (segment_on l (bits_of_bytes bytes.now)) count) }
 {
     let mut previous = 0;
-    let mut i = 0;
-    loop {
-        if i >= count {
-            break count;
-        }
+    for i in 0..count {
         let s = segment_on(bytes, l, i);
         if segment_broken(rules, count == 1, previous, s) {
-            break i;
+            return i;
         }
         previous = s.end;
-        i += 1;
     }
+    count
 }
 
 // Whether what a card of `count` segments says breaks a rule of the layout `rules`.

@@ -73,12 +73,10 @@ fn sum_contributions(
     ensures { result ≡ contributions_by_class lowest magnitudes.now weights.now }
 {
     let mut sums = [0.0; 12];
-    let mut k = 0;
-    while k < magnitudes.len() {
+    for k in 0..magnitudes.len() {
         let row = row_at(coefficients, weights, k);
         let class = class_at(lowest, k);
         sums[class] += weighted(row, contribution(magnitudes, lowest, k));
-        k += 1;
     }
     sums
 }

@@ -3,6 +3,7 @@ ghost use Rattle.std.specs.Prelude.{◌≡◌};
 ghost use Rattle.one_frame.specs.Blend.{levelled, halves_of, blend_of};
 
 use numbers::twelve::sum_of_twelve;
+use std::array;
 use whitening::levels::{normalize_chroma, whiten_chroma};
 
 // A chroma whitened and normalised.
@@ -17,13 +18,7 @@ fn level(chroma: &[f32; 12]) -> [f32; 12]
 fn add_halves(a: &[f32; 12], b: &[f32; 12]) -> [f32; 12]
     ensures { result ≡ halves_of a.now b.now }
 {
-    let mut values = [0.0; 12];
-    let mut i = 0;
-    while i < 12 {
-        values[i] = 0.5 * a[i] + 0.5 * b[i];
-        i += 1;
-    }
-    values
+    array::from_fn(|i| 0.5 * a[i] + 0.5 * b[i])
 }
 
 // Goertzel's chroma levelled, and with constant-Q's where that sums to more than 2^-23.

@@ -25,13 +25,10 @@ pub fn frame_energy(samples: &[f32], start: usize, size: usize) -> f32
     ensures { result ≡ frame_energy samples.now start size }
 {
     let mut sum: f32 = -0.0;
-    let mut i = 0;
-    while i < size {
+    for i in 0..size {
         let x = samples[start + i];
-        let next = i + 1;
         let square = if is_finite(x) { x * x } else { -0.0 };
-        sum = sum + square;
-        i = next;
+        sum += square;
     }
     sum / std::num::nearest_u32_to_f32(size as u32)
 }
@@ -117,10 +114,8 @@ pub fn is_whole(row: Row) -> bool
 {
     let values = row.values;
     let mut sofar = is_finite(row.energy);
-    let mut i = 0;
-    while i < 12 {
-        sofar = sofar & is_finite(values[i]);
-        i += 1;
+    for i in 0..12 {
+        sofar &= is_finite(values[i]);
     }
     sofar
 }

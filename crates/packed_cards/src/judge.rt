@@ -15,17 +15,13 @@ fn first_gap(starts: &[u32], ends: &[u32]) -> usize
 {
     let count = ends.len();
     let mut previous = 0;
-    let mut i = 0;
-    loop {
-        if i >= count {
-            break count;
-        }
+    for i in 0..count {
         if !(starts[i] == previous) {
-            break i;
+            return i;
         }
         previous = ends[i];
-        i += 1;
     }
+    count
 }
 
 // The layout that the header and the rows are written in: the first of which they break no rule.

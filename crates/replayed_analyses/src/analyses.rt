@@ -136,10 +136,8 @@ pub fn count_differing_analyses(bytes: &[u8]) -> usize
 {
     let count = count_analyses(bytes);
     let mut differ = 0;
-    let mut n = 0;
-    while n < count {
+    for n in 0..count {
         let same = record_agrees(bytes, 3648 + n * 2424);
-        n += 1;
         if !same {
             differ += 1;
         }

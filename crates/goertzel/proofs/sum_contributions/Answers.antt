@@ -9,13 +9,13 @@ use Rattle.goertzel.proofs.sum_contributions.Goals as goal
 
 pub loop-k-init : goal.loop-k-init
 unfolding contributions_by_class added_by_class of_bits
-loop-k-init c = (omega arith, turns-start _ _ _)
+loop-k-init c = turns-start _ _ _
 
 pub loop-k-preserved : goal.loop-k-preserved
 unfolding class_added
 loop-k-preserved c =
     let turn = c.loop-k in
-    (omega arith, turns-again _ _ turn.k turn.invariant.1 c.loop-k-test.true (rw (c.weighted.ensures, c.class_at-class.ensures.0, c.contribution.ensures, c.row_at-row.ensures) refl))
+    turns-again _ _ turn.k turn.invariant c.loop-k-test.true (rw (c.weighted.ensures, c.class_at-class.ensures.0, c.contribution.ensures, c.row_at-row.ensures) refl)
 
 pub returns : goal.returns
-returns c = let last = c.loop-k in turns-end _ _ last.k last.invariant.1 (omega arith)
+returns c = let last = c.loop-k in turns-end _ _ last.k last.invariant (omega arith)

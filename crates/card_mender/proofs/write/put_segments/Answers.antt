@@ -15,9 +15,6 @@ segment_on-s-requires c = (c.requires.1, omega (arith, c.requires.2, c.loop-i-te
 pub put_segment-pen-requires : goal.put_segment-pen-requires
 put_segment-pen-requires c = putting-room c.args.l (segment_on c.args.from (bits_of_bytes c.args.bytes.now)) c.args.count c.loop-i.i c.loop-i.invariant c.loop-i-test.true c.segment_on-s.ensures c.requires.0
 
-pub loop-i-smaller : goal.loop-i-smaller
-loop-i-smaller c = omega (arith, c.loop-i-test.true)
-
 pub loop-i-preserved : goal.loop-i-preserved
 loop-i-preserved c = putting-more c.args.l (segment_on c.args.from (bits_of_bytes c.args.bytes.now)) c.args.count c.loop-i.i c.loop-i.invariant c.loop-i-test.true c.segment_on-s.ensures c.put_segment-pen.ensures
 

@@ -2,7 +2,6 @@
 use mathlib.Core.Path.{◌≡◌, ap, ◌∙◌}
 use mathlib.Core.Bool.{Bool}
 use Prim.Native.Nat.{ℕ}
-use borrow.Author.Rules.{rules}
 use Rattle.laws.specs.Front.{list}
 use Rattle.laws.proofs.Table.{told}
 use Rattle.bits.specs.Bits.{bits_of_bytes}

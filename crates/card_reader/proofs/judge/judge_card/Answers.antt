@@ -12,7 +12,7 @@ use Rattle.laws.specs.Table.{first_of}
 use Rattle.laws.proofs.Table.{Reads, here, next, end, reads, told}
 use Rattle.bits.specs.Bits.{bits_of_bytes}
 use Rattle.card.specs.Layout.{layouts, numbered_in, layout_or1}
-use Rattle.card.specs.Rules.{card_broken, needless}
+use Rattle.card.specs.Rules.{card_broken}
 use Rattle.card.specs.declared.layout.Layout.{Layout}
 use Rattle.card.proofs.Known.{Sound, known-sound}
 use Rattle.card_form.specs.Form.{card_size, number_on, count_on, meaning_on, filler_set}

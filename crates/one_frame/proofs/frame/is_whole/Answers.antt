@@ -18,10 +18,10 @@ and-more false test i = refl
 
 pub loop-i-init : goal.loop-i-init
 unfolding every
-loop-i-init c = (omega arith, and_none c.is_finite-sofar.result)
+loop-i-init c = and_none c.is_finite-sofar.result
 
 pub loop-i-preserved : goal.loop-i-preserved
-loop-i-preserved c = (omega arith, rw (c.is_finite-sofar-in-loop-i.ensures, c.loop-i.invariant.1) (and-more c.is_finite-sofar.result _ c.loop-i.i))
+loop-i-preserved c = rw (c.is_finite-sofar-in-loop-i.ensures, c.loop-i.invariant) (and-more c.is_finite-sofar.result _ c.loop-i.i)
 
 pub returns : goal.returns
 unfolding whole every_entry
@@ -30,4 +30,4 @@ returns c =
     let row = c.args.row in
     let long : length row.values ≡ 12 = search rules in
     let all : last.i ≡ length row.values = omega arith in
-    last.invariant.1 ∙ ap₂ ◌&&◌ c.is_finite-sofar.ensures (ap (every (λ (k : ℕ). finite (get_or row.values k nan))) all)
+    last.invariant ∙ ap₂ ◌&&◌ c.is_finite-sofar.ensures (ap (every (λ (k : ℕ). finite (get_or row.values k nan))) all)

@@ -6,7 +6,4 @@ use Rattle.replayed_analyses.specs.Analyses.{record_turn}
 use Rattle.replayed_analyses.proofs.analyses.count_differing_analyses.Given as goal
 
 abbrev pub invariant-loop-n : goal.invariant-loop-n
-invariant-loop-n l = (l.n ≤ l.count) × (l.differ ≤ l.n) × (turns (record_turn l.bytes) (l.count - l.n) l.n l.differ ≡ turns (record_turn l.bytes) l.count 0 0)
-
-abbrev pub decreases-loop-n : goal.decreases-loop-n
-decreases-loop-n l = l.count - l.n
+invariant-loop-n l = (l.differ ≤ l.n) × (turns (record_turn l.bytes) (l.count - l.n) l.n l.differ ≡ turns (record_turn l.bytes) l.count 0 0)
