@@ -7,7 +7,7 @@ use Prim.Native.Nat.{ℕ, suc, ◌+◌, ◌-◌, ◌≤◌, ◌<◌}
 use native.Mathlib.Omega.{arith}
 use lib.Dec.{T}
 use lib.ListN.{length, get_or, take, drop, length-append}
-use lib.Seq.{length-take-le, take-append-le}
+use lib.Seq.{length-take-le, take-append-le, drop-append_seam, drop-drop}
 use Rattle.std.specs.Prelude.{filter}
 use lib.Ieee.{Float, nan, binary32}
 use borrow.Author.Tests.{lt-ltb, le-ltb}
@@ -165,6 +165,9 @@ module _ (ws moved : List Float) (n rank r : ℕ) (low high : Float) (b u : ℕ)
             ap (λ (l : List Float). key_of (get_or (sorted_of l) (rank - b) nan)) here
             ∙ ap (λ (k : ℕ). key_of (get_or (sorted_of (filter (within low high) first)) (rank - k) nan)) below-low
             ∙ kept-key low high lo hi counts.low_fits counts.high_fits all_fit rank under over;
+        same_rest =
+            let ends : n ≡ length moved = omega (arith, long, length-take-le n ws room) in
+            ap (λ (k : ℕ). drop k after) ends ∙ drop-append_seam moved (drop n ws);
       }
 
 -- bounds with a rank between their counts are apart
@@ -176,7 +179,13 @@ counted-apart {xs} {rank} {low} {high} {b} {u} counts least most = elim (lt-or-g
 
 -- ---- one narrowing after another
 pub narrowed-same : (ws : List Float) (n rank : ℕ) → Narrowed ws n rank ws n rank
-narrowed-same ws n rank = record { fewer = omega arith; same_key = refl }
+narrowed-same ws n rank = record { fewer = omega arith; same_key = refl; same_rest = refl }
 
 pub narrowed-more : {before now after : List Float} {n rank m place k spot : ℕ} → Narrowed before n rank now m place → Narrowed now m place after k spot → Narrowed before n rank after k spot
-narrowed-more a b = record { fewer = omega (arith, a.fewer, b.fewer); same_key = b.same_key ∙ a.same_key }
+narrowed-more {before} {now} {after} {n} {rank} {m} {place} {k} {spot} a b =
+    let beyond : n ≡ m + (n - m) = omega (arith, a.fewer) in
+    record {
+      fewer = omega (arith, a.fewer, b.fewer);
+      same_key = b.same_key ∙ a.same_key;
+      same_rest = ap (λ (i : ℕ). drop i after) beyond ∙ sym (drop-drop (n - m) m after) ∙ ap (drop (n - m)) b.same_rest ∙ drop-drop (n - m) m now ∙ ap (λ (i : ℕ). drop i now) (sym beyond) ∙ a.same_rest;
+    }

@@ -137,8 +137,7 @@ pub fn count_differing_analyses(bytes: &[u8]) -> usize
     let count = count_analyses(bytes);
     let mut differ = 0;
     for n in 0..count {
-        let same = record_agrees(bytes, 3648 + n * 2424);
-        if !same {
+        if !record_agrees(bytes, 3648 + n * 2424) {
             differ += 1;
         }
     }

@@ -1,5 +1,5 @@
 -- Values kept by bounds, and what stays the same. No promise names it. Definitions only.
-use Rattle.std.specs.Prelude.{◌≡◌, Bool, not, ◌&&◌, ◌||◌, List, ℕ, ◌≤◌, T, take, count_by, Float}
+use Rattle.std.specs.Prelude.{◌≡◌, Bool, not, ◌&&◌, ◌||◌, List, ℕ, ◌≤◌, T, take, drop, count_by, Float}
 use Rattle.std.specs.Float.{binary32}
 use Rattle.std.specs.Float.Ieee.{lt, fits}
 use Rattle.laws.specs.Order.{order_key}
@@ -31,3 +31,4 @@ pub record Counted (values : List Float) (low high : Float) (below upto : ℕ) :
 pub record Narrowed (before : List Float) (n rank : ℕ) (after : List Float) (m place : ℕ) : Type 0 where
   pub fewer : m ≤ n
   pub same_key : key_at_rank (take m after) place ≡ key_at_rank (take n before) rank
+  pub same_rest : drop n after ≡ drop n before
