@@ -29,6 +29,10 @@ impl Floating for f64 {
         !self.is_nan() && self.is_sign_negative()
     }
 
+    fn is_below(self, other: Self) -> bool {
+        self < other
+    }
+
     fn order_key(self) -> u64 {
         if self.is_nan() {
             return 0xffff_ffff_ffff_ffff;

@@ -26,6 +26,10 @@ pub trait Floating: Copy + PartialOrd {
     fn is_negative(self) -> bool
         ensures { result ≡ negative (value self) };
 
+    // Whether it is less than another, by the format's own comparison.
+    fn is_below(self, other: Self) -> bool
+        ensures { result ≡ lt (value self) (value other) };
+
     // A number whose order is the total order's.
     fn order_key(self) -> Self::Key
         ensures key { key_number result ≡ order_key format (value self) }
@@ -63,7 +67,7 @@ pub fn total_before<F: Floating>(a: F, b: F) -> bool
 pub fn larger<F: Floating>(a: F, b: F) -> F
     ensures { F.value result ≡ maximum_number (F.value a) (F.value b) }
 {
-    if is_nan(a) | (a < b) | ((a == b) & a.is_negative()) {
+    if is_nan(a) | a.is_below(b) | ((a == b) & a.is_negative()) {
         b
     } else {
         a
@@ -74,7 +78,7 @@ pub fn larger<F: Floating>(a: F, b: F) -> F
 pub fn smaller<F: Floating>(a: F, b: F) -> F
     ensures { F.value result ≡ minimum_number (F.value a) (F.value b) }
 {
-    if is_nan(a) | (b < a) | ((a == b) & b.is_negative()) {
+    if is_nan(a) | b.is_below(a) | ((a == b) & b.is_negative()) {
         b
     } else {
         a

@@ -32,6 +32,10 @@ impl Floating for f32 {
         !self.is_nan() && self.is_sign_negative()
     }
 
+    fn is_below(self, other: Self) -> bool {
+        self < other
+    }
+
     fn order_key(self) -> u32 {
         if self.is_nan() {
             return 0xffff_ffff;
