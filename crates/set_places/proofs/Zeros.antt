@@ -1,12 +1,13 @@
 -- What a place holds, byte by byte: a card's bytes, and zeros behind them.
-use mathlib.Core.Path.{◌≡◌, refl, sym, ap, subst, ◌∙◌}
-use mathlib.Core.Bool.{false, Bool, true}
+use mathlib.Core.Path.{◌≡◌, refl, sym, ap, ap₂, subst, ◌∙◌}
+use mathlib.Core.Bool.{false, Bool, true, ◌&&◌}
 use mathlib.Core.List.{List, [], ◌∷◌, ◌++◌}
 use Prim.Native.Nat.{ℕ, zero, suc, ◌+◌, ◌-◌, ◌≤◌}
 use native.Mathlib.Nat.{not-suc-le-zero, le_of_suc-le-suc}
 use native.Mathlib.Omega.{arith}
 use lib.Dec.{T, eqb, eqb→eq, eqb_refl}
-use lib.ListN.{length, get_or, take, drop, replicate, length-append, length-drop, length-replicate, get_or-replicate, replicate-append-replicate}
+use lib.Ieee.Fits.{and_l, and_r, and_i}
+use lib.ListN.{length, get_or, take, drop, replicate, length-append, length-drop, length-replicate, get_or-replicate, replicate-append-replicate, take-append-drop}
 use lib.Seq.{ext_get_or, take_at, drop_at}
 use Rattle.laws.specs.Every.{every_entry, same_numbers}
 use Rattle.laws.proofs.Cases.{same_test}
@@ -79,18 +80,19 @@ module _ (card : List ℕ) (fits : length card ≤ place_size) where
   pub behind-of : drop (length card) (in_place card) ≡ rest
   behind-of = ap (drop (length card)) in_place_lem ∙ drop_at card (rest) (length card) refl
 
-  -- a place that begins with it holds it where the rest is zeros; one that does not begin with it does not
-  pub holds-rest : (place : List ℕ) → length place ≡ place_size → place ≡ card ++ drop (length card) place → all_zero (drop (length card) place) ≡ same_numbers place (in_place card)
-  holds-rest place long begins =
+  -- a place that holds it, by the two parts
+  pub holds_parts : (place : List ℕ) → length place ≡ place_size → same_numbers (take (length card) place) card && all_zero (drop (length card) place) ≡ same_numbers place (in_place card)
+  holds_parts place long =
+      let Front-same = same_numbers (take (length card) place) card in
+      let rest-zero = all_zero (drop (length card) place) in
       let rest-long : length (drop (length card) place) ≡ place_size - length card = length-drop (length card) place ∙ ap (λ (n : ℕ). n - length card) long in
-      same_test (all_zero (drop (length card) place)) (same_numbers place (in_place card))
-      (λ zero. same_of place (in_place card) (begins ∙ ap (λ (xs : List ℕ). card ++ xs) (zeros-are _ zero ∙ ap (λ (n : ℕ). replicate n 0) rest-long) ∙ sym in_place_lem))
-      (λ whole. subst (λ (xs : List ℕ). T (all_zero xs)) (sym (ap (drop (length card)) (same-is place (in_place card) whole) ∙ behind-of)) (are-zeros (place_size - length card)))
-
-  pub holds-none : (place : List ℕ) (begins : Bool) → begins ≡ false → ((rest : List ℕ) → place ≡ card ++ rest → begins ≡ true) → begins ≡ same_numbers place (in_place card)
-  holds-none place begins differs back =
-      same_test begins (same_numbers place (in_place card)) (λ t. elim (subst T differs t) [ ])
-      (λ whole. subst T (sym (back (replicate (place_size - length card) 0) (same-is place (in_place card) whole ∙ in_place_lem))) tt)
+      same_test (Front-same && rest-zero) (same_numbers place (in_place card))
+      (λ both. same_of place (in_place card)
+      (sym (take-append-drop (length card) place)
+      ∙ ap₂ (λ (xs ys : List ℕ). xs ++ ys) (same-is _ card (and_l Front-same rest-zero both)) (zeros-are _ (and_r Front-same rest-zero both) ∙ ap (λ (n : ℕ). replicate n 0) rest-long)
+      ∙ sym in_place_lem))
+      (λ whole. let e = same-is place (in_place card) whole in
+      and_i Front-same rest-zero (same_of _ card (ap (take (length card)) e ∙ card-of)) (subst (λ (xs : List ℕ). T (all_zero xs)) (sym (ap (drop (length card)) e ∙ behind-of)) (are-zeros (place_size - length card))))
 
 -- no bytes in a place leave it free
 pub none-in-place : in_place [] ≡ replicate place_size 0

@@ -3,7 +3,7 @@ ghost use Rattle.std.specs.Prelude.{◌≡◌, ◌≤◌, ◌<◌, min, length};
 ghost use Rattle.laws.specs.Every.{same_numbers};
 ghost use Rattle.set_places.specs.Places.{places, place_size, set_size, in_place, length_on, lowest_with, found_place, placed};
 
-use crate::bytes::all_zero;
+use crate::bytes::{all_zero, same_bytes};
 use card::layout::{layout_1, layout_numbered};
 use card_form::card_size;
 use card_reader::on_card::{count_on, number_on};
@@ -32,7 +32,7 @@ fn holds(place: &[u8], card: &[u8]) -> bool
     requires { (length place.now ≡ place_size) × (length card.now ≤ place_size) }
     ensures { result ≡ same_numbers place.now (in_place card.now) }
 {
-    place.starts_with(card) && all_zero(&place[card.len()..])
+    same_bytes(&place[..card.len()], card) & all_zero(&place[card.len()..])
 }
 
 // The lowest place that holds a card; of no bytes, the lowest that is free.
@@ -49,7 +49,9 @@ fn fill_place(place: &mut [u8], card: &[u8])
     ensures { place.new ≡ in_place card.now }
 {
     let (front, behind) = place.split_at_mut(card.len());
-    front.copy_from_slice(card);
+    for k in 0..card.len() {
+        front[k] = card[k];
+    }
     behind.fill(0);
 }
 
