@@ -63,7 +63,9 @@ pub fn estimate_tuning(frames: &[[f32; 12]]) -> f32
         offsets: 0.0,
     };
     for values in frames {
-        peaks = add_frame(peaks, values);
+        // a copy of its own: by reference the compiler works out each bin's bend before the tests that mostly rule it out
+        let own = *values;
+        peaks = add_frame(peaks, &own);
     }
     mean_offset(peaks)
 }
