@@ -52,7 +52,7 @@ fn few_windows(counts: &[u32]) -> bool
 {
     let mut total: u64 = 0;
     for windows in counts {
-        total = total.saturating_add(u64::from(*windows));
+        total = (total + u64::from(*windows)).min(0x1_0000_0000);
     }
     total < 0x1_0000_0000
 }
