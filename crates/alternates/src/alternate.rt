@@ -55,7 +55,8 @@ fn is_lasting(segment: Segment) -> bool
 fn with_length(sum: f64, segment: Segment) -> f64
     ensures { result ≡ add binary64 sum (held_seconds segment) }
 {
-    sum + held_seconds(segment)
+    let length = held_seconds(segment);
+    sum + length
 }
 
 // All segments' lengths, summed in order from -0.
