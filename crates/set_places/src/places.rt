@@ -1,7 +1,7 @@
 // The places of a set: which holds what, and one filled anew.
 ghost use Rattle.std.specs.Prelude.{◌≡◌, ◌≤◌, ◌<◌, min, length};
 ghost use Rattle.laws.specs.Every.{same_numbers};
-ghost use Rattle.set_places.specs.Places.{places, place_size, set_size, in_place, length_on, lowest_with, found_place, placed};
+ghost use Rattle.set_places.specs.Places.{places, place_size, set_size, place_at, in_place, length_on, lowest_with, found_place, placed};
 
 use crate::bytes::{all_zero, same_bytes};
 use card::layout::{layout_1, layout_numbered};
@@ -35,12 +35,20 @@ fn holds(place: &[u8], card: &[u8]) -> bool
     same_bytes(&place[..card.len()], card) & all_zero(&place[card.len()..])
 }
 
+// Whether place i of a set holds a card, and zeros behind it; of no bytes, whether it is free.
+fn place_holds(set: &[u8], i: usize, card: &[u8]) -> bool
+    requires { (length set.now ≡ set_size) × (i < places) × (length card.now ≤ place_size) }
+    ensures { result ≡ same_numbers (place_at set.now i) (in_place card.now) }
+{
+    holds(&set[i * PLACE_SIZE..(i + 1) * PLACE_SIZE], card)
+}
+
 // The lowest place that holds a card; of no bytes, the lowest that is free.
 pub fn find_place(set: &[u8], card: &[u8]) -> Option<usize>
     requires { (length set.now ≡ set_size) × (length card.now ≤ place_size) }
     ensures { result ≡ found_place (lowest_with (in_place card.now) set.now) }
 {
-    (0..PLACES).find(|i| holds(&set[*i * PLACE_SIZE..(*i + 1) * PLACE_SIZE], card))
+    (0..PLACES).find(|i| place_holds(set, *i, card))
 }
 
 // A card goes into a place, and zeros behind it.
