@@ -1,5 +1,5 @@
 // The places of a set: which holds what, and one filled anew.
-ghost use Rattle.std.specs.Prelude.{◌≡◌, ◌≤◌, ◌<◌, min, length};
+ghost use Rattle.std.specs.Prelude.{◌≡◌, ◌≤◌, ◌<◌, ◌+◌, ◌*◌, min, length};
 ghost use Rattle.laws.specs.Every.{same_numbers};
 ghost use Rattle.set_places.specs.Places.{places, place_size, set_size, place_at, in_place, length_on, lowest_with, found_place, placed};
 
@@ -37,7 +37,7 @@ fn holds(place: &[u8], card: &[u8]) -> bool
 
 // Whether place i of a set holds a card, and zeros behind it; of no bytes, whether it is free.
 fn place_holds(set: &[u8], i: usize, card: &[u8]) -> bool
-    requires { (length set.now ≡ set_size) × (i < places) × (length card.now ≤ place_size) }
+    requires { ((i + 1) * place_size ≤ length set.now) × (length card.now ≤ place_size) }
     ensures { result ≡ same_numbers (place_at set.now i) (in_place card.now) }
 {
     holds(&set[i * PLACE_SIZE..(i + 1) * PLACE_SIZE], card)

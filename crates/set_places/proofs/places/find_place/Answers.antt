@@ -1,5 +1,5 @@
 -- The search tests one place after the other.
-use Rattle.std.proofs.Common.{rules, ◌≡◌, ℕ, Bool, List, true, false, ap, ◌∙◌}
+use Rattle.std.proofs.Common.{rules, ◌≡◌, ℕ, Bool, List, true, false}
 use Rattle.std.proofs.lemmas.Iterator.{first_from_Range}
 use Rattle.laws.specs.Every.{same_numbers}
 use Rattle.set_places.specs.Places.{place_at, in_place, lowest_with, found_place}

@@ -1,7 +1,5 @@
 -- The bytes that are lent are the place.
-use mathlib.Core.Path.{ap, ◌∙◌}
-use mathlib.Core.List.{List}
-use Prim.Native.Nat.{ℕ}
+use Rattle.std.proofs.Common.{ℕ, List, ap, ◌∙◌}
 use Rattle.laws.specs.Every.{same_numbers}
 use Rattle.set_places.specs.Places.{in_place}
 use Rattle.set_places.proofs.Changed.{part-place}
